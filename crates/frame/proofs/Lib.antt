@@ -1,0 +1,5 @@
+pub mod Sums
+pub mod Rows
+pub mod Content
+pub mod Over
+pub mod WriterRows

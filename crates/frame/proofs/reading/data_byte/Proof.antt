@@ -1,0 +1,31 @@
+-- Within DATA the byte lies nine places on; past it there is none.
+-- Assumes nothing.
+use borrow.Author.Needs.{needs}
+use native.Mathlib.Omega.{arith}
+use mathlib.Core.Path.{sym}
+use Rattle.frame.proofs.Content.{data-at, data-past}
+use Rattle.frame.proofs.reading.data_byte.Statement.{statement}
+use Rattle.frame.proofs.reading.data_byte.Tie as tie
+
+data-count-requires : tie.Need-data-count-requires
+data-count-requires c κs = search needs
+
+add-result : tie.Need-add-result
+add-result c = search needs
+
+shared-slice-read-result : tie.Need-shared-slice-read-result
+shared-slice-read-result c = search needs
+
+returns : tie.Need-returns
+returns c =
+    let x = c .before .before .before .before .args in
+    sym (data-at (x .bundle .now) (x .index) (omega arith))
+
+returns-2 : tie.Need-returns-2
+returns-2 c =
+    let x = c .before .before .before .args in
+    sym (data-past (x .bundle .now) (x .index) (omega arith))
+
+pub data-byte-spec : {M : Type 1} → statement M
+data-byte-spec =
+    tie.close (tie.spec data-count-requires add-result shared-slice-read-result returns returns-2)

@@ -1,0 +1,75 @@
+-- Writing a frame (document 01, rows 10 to 14): its wire bytes, the answer, and what then stands in the lent buffer.
+-- Assumes nothing.
+use Prim.Native.Nat.{ℕ, _+_, _-_, _*_, _/_, _%_, _≤_}
+use mathlib.Core.Logic.{_≢_}
+use mathlib.Core.Bool.{Bool}
+use mathlib.Core.List.{List, [], _∷_, _++_, map}
+use lib.Dec.{ltb, eqb}
+use lib.ListN.{length, take, drop}
+use Rattle.meaning.specs.Choice.{if_then_else_}
+use Rattle.refusal.specs.Number.{numberOf}
+use Rattle.refusal.specs.declared.Refusal.{Refusal}
+use Rattle.frame.specs.Address.{bytesOf}
+use Rattle.frame.specs.Layout.{inverted, sumOf}
+use Rattle.frame.specs.declared.header.Header.{Header}
+use Rattle.frame.specs.declared.writing.Writing.{Writing}
+use Rattle.frame.specs.declared.writing.Writing.the-variants.{Next, Refused}
+
+-- The second byte: ACK in the top bit, EXT 0, and the length of the whole frame.
+abbrev pub ackLength : Bool → ℕ → ℕ
+ackLength ack count = if ack then 128 + (11 + count) else 11 + count
+
+-- The nine raw bytes before DATA.
+abbrev pub rawHeader : Header → ℕ → List ℕ
+rawHeader h count =
+    h .message ∷ ackLength (h .ack) count ∷ (h .sender * 16 + h .receiver) ∷ (bytesOf (h .source) ++ bytesOf (h .destination))
+
+-- Raw bytes go out inverted, and their checksum behind them, high byte first.
+abbrev pub sealed : List ℕ → List ℕ
+sealed w = w ++ (sumOf w / 256 ∷ sumOf w % 256 ∷ [])
+
+abbrev pub wireOf : List ℕ → List ℕ
+wireOf raw = sealed (map inverted raw)
+
+abbrev pub frameOf : Header → List ℕ → List ℕ
+frameOf h d = wireOf (rawHeader h (length d) ++ d)
+
+-- Why a frame is not written, the first reason that applies, or the place after it.
+unfoldable pub writingOf : (room place : ℕ) → Header → List ℕ → Writing
+writingOf room place h d =
+    if ltb 0xFFFFFF (h .source .0) then Refused Refusal.AddressTooLarge else
+    if ltb 0xFFFFFF (h .destination .0) then Refused Refusal.AddressTooLarge else
+    if ltb 15 (h .sender) then Refused Refusal.TypeTooLarge else
+    if ltb 15 (h .receiver) then Refused Refusal.TypeTooLarge else
+    if ltb 20 (length d) then Refused Refusal.TooMuchData else
+    if eqb (h .message) 255 then Refused Refusal.ReservedToWrite else
+    if ltb room place then Refused Refusal.NoRoom else
+    if ltb (room - place) (11 + length d) then Refused Refusal.NoRoom else
+    Next (place + (11 + length d))
+
+-- What the writer asks, as facts.
+pub record Writable (room place : ℕ) (h : Header) (d : List ℕ) : Type 0 where
+  pub source-is-an-address : h .source .0 ≤ 0xFFFFFF
+  pub destination-is-an-address : h .destination .0 ≤ 0xFFFFFF
+  pub sender-is-a-type : h .sender ≤ 15
+  pub receiver-is-a-type : h .receiver ≤ 15
+  pub to-20-bytes : length d ≤ 20
+  pub has-a-message : h .message ≢ 255
+  pub has-room : place + (11 + length d) ≤ room
+
+-- Bytes written over the first of a run.
+abbrev pub over : List ℕ → List ℕ → List ℕ
+over w run = w ++ drop (length w) run
+
+-- The buffer at the end: the frame's own bytes from the place on, and nothing else changed; a refusal changes no byte.
+abbrev pub laid : Writing → List ℕ → ℕ → List ℕ → List ℕ
+laid (Next n) buffer place w = take place buffer ++ over w (drop place buffer)
+laid (Refused r) buffer place w = buffer
+
+abbrev pub bufferAfter : List ℕ → ℕ → Header → List ℕ → List ℕ
+bufferAfter buffer place h d = laid (writingOf (length buffer) place h d) buffer place (frameOf h d)
+
+-- The paper's number of an answer, 0 where nothing is refused.
+abbrev pub refusedBy : Writing → ℕ
+refusedBy (Next n) = 0
+refusedBy (Refused r) = numberOf r
