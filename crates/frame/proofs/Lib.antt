@@ -3,3 +3,10 @@ pub mod Rows
 pub mod Content
 pub mod Over
 pub mod WriterRows
+pub mod Frames
+pub mod Addresses
+pub mod ReadBack
+pub mod WrittenAgain
+pub mod Buffers
+pub mod Figures
+pub mod Determined

@@ -1,18 +1,15 @@
 -- Bytes written over the first of a run, and over its rest.
 -- Assumes nothing.
-use Prim.Native.Nat.{ℕ, suc, _+_, _-_, _≤_, _<_}
+use Prim.Native.Nat.{ℕ, _+_, _-_, _≤_, _<_}
 use native.Mathlib.Omega.{arith}
 use native.Mathlib.Numerals.{add-one}
-use mathlib.Core.Path.{_≡_, refl, _∙_, sym, ap}
+use mathlib.Core.Path.{_≡_, _∙_}
 use mathlib.Core.List.{List, [], _∷_, _++_, map, append-nil, append-assoc, map-append}
-use lib.ListN.{length, getD, take, drop, set, length-append, length-drop, length-map, length-take, drop-of-length-le}
+use lib.ListN.{length, getD, take, drop, set, length-append, length-drop, length-take, drop-of-length-le}
 use lib.Seq.{take-suc, take-all, take-append-seam, drop-append-seam, drop-cons, drop-drop, set-append-seam}
 use Rattle.frame.specs.Writing.{over}
 
 module _ (w run : List ℕ) where
-  pub length-over : length w ≤ length run → length (over w run) ≡ length run
-  length-over h = simp (length-append, length-drop) (omega arith)
-
   -- one byte more
   pub over-more : (v n : ℕ) → length w ≡ n → n < length run → set (over w run) n v ≡ over (w ++ v ∷ []) run
   over-more v n e h =
@@ -21,6 +18,9 @@ module _ (w run : List ℕ) where
   -- a part of what is lent on, from the end of what is written
   pub over-on : (v : List ℕ) → length w ≤ length run → take (length w) (over w run) ++ over v (drop (length w) (over w run)) ≡ over (w ++ v) run
   over-on v h = rw (take-append-seam, drop-append-seam, length-append, append-assoc, drop-drop)
+
+  pub length-over-at : (at : ℕ) → at + length w ≤ length run → length (take at run ++ over w (drop at run)) ≡ length run
+  length-over-at at h = simp (length-append, length-take, length-drop) (omega arith)
 
 -- A part from `at` to the end, of which the callee says what a call on a whole says.
 pub lent-on : (run w part : List ℕ) (at : ℕ) → part ≡ over w (take (length run - at) (drop at run))

@@ -37,21 +37,23 @@ module _ (b : List ℕ) (h : 10 < length b) (g : length b < 32) where
   pub row-6 : ext b ≡ 0 → len b ≡ length b → summed b ≡ stated b → message b ≡ 255 → readingOf b ≡ Refused Refusal.ReservedMessage
   unfolding readingOf
   row-6 e l s m =
-      rw
-      (lt-leb (length b) 10 h,
+      rw (
+        lt-leb (length b) 10 h,
         lt-leb 32 (length b) g,
         eq-eqb (ext b) 0 e,
         eq-eqb (len b) (length b) l,
         eq-eqb (summed b) (stated b) s,
-        eq-eqb (message b) 255 m)
+        eq-eqb (message b) 255 m,
+      )
 
   pub no-row : ext b ≡ 0 → len b ≡ length b → summed b ≡ stated b → message b ≢ 255 → readingOf b ≡ Frame (headerOf b) (dataCount b)
   unfolding readingOf
   no-row e l s m =
-      rw
-      (lt-leb (length b) 10 h,
+      rw (
+        lt-leb (length b) 10 h,
         lt-leb 32 (length b) g,
         eq-eqb (ext b) 0 e,
         eq-eqb (len b) (length b) l,
         eq-eqb (summed b) (stated b) s,
-        ne-eqb (message b) 255 m)
+        ne-eqb (message b) 255 m,
+      )

@@ -8,7 +8,7 @@ use mathlib.Core.List.{List}
 use borrow.Author.Tests.{lt-ltb, le-ltb, eq-eqb, ne-eqb}
 use lib.ListN.{length}
 use Rattle.refusal.specs.declared.Refusal.{Refusal}
-use Rattle.frame.specs.Writing.{writingOf, Writable, laid, bufferAfter, frameOf}
+use Rattle.frame.specs.Writing.{writingOf, laid, bufferAfter, frameOf}
 use Rattle.frame.specs.declared.header.Header.{Header}
 use Rattle.frame.specs.declared.writing.Writing.{Writing}
 use Rattle.frame.specs.declared.writing.Writing.the-variants.{Next, Refused}
@@ -39,62 +39,67 @@ module _ (room place : ℕ) (h : Header) (d : List ℕ) (s : h .source .0 ≤ 0x
       rw (le-ltb 0xFFFFFF (h .source .0) s, le-ltb 0xFFFFFF (h .destination .0) t, le-ltb 15 (h .sender) k, lt-ltb 15 (h .receiver) x)
 
 module _
-  (room place : ℕ) (h : Header) (d : List ℕ) (s : h .source .0 ≤ 0xFFFFFF) (t : h .destination .0 ≤ 0xFFFFFF) (k : h .sender ≤ 15) (l : h .receiver ≤ 15) where
+    (room place : ℕ) (h : Header) (d : List ℕ) (s : h .source .0 ≤ 0xFFFFFF) (t : h .destination .0 ≤ 0xFFFFFF) (k : h .sender ≤ 15) (l : h .receiver ≤ 15) where
   pub row-12 : 20 < length d → writingOf room place h d ≡ Refused Refusal.TooMuchData
   unfolding writingOf
   row-12 x =
-      rw
-      (le-ltb 0xFFFFFF (h .source .0) s,
+      rw (
+        le-ltb 0xFFFFFF (h .source .0) s,
         le-ltb 0xFFFFFF (h .destination .0) t,
         le-ltb 15 (h .sender) k,
         le-ltb 15 (h .receiver) l,
-        lt-ltb 20 (length d) x)
+        lt-ltb 20 (length d) x,
+      )
 
   pub row-13 : length d ≤ 20 → h .message ≡ 255 → writingOf room place h d ≡ Refused Refusal.ReservedToWrite
   unfolding writingOf
   row-13 m x =
-      rw
-      (le-ltb 0xFFFFFF (h .source .0) s,
+      rw (
+        le-ltb 0xFFFFFF (h .source .0) s,
         le-ltb 0xFFFFFF (h .destination .0) t,
         le-ltb 15 (h .sender) k,
         le-ltb 15 (h .receiver) l,
         le-ltb 20 (length d) m,
-        eq-eqb (h .message) 255 x)
+        eq-eqb (h .message) 255 x,
+      )
 
   pub row-14-place : length d ≤ 20 → h .message ≢ 255 → room < place → writingOf room place h d ≡ Refused Refusal.NoRoom
   unfolding writingOf
   row-14-place m n x =
-      rw
-      (le-ltb 0xFFFFFF (h .source .0) s,
+      rw (
+        le-ltb 0xFFFFFF (h .source .0) s,
         le-ltb 0xFFFFFF (h .destination .0) t,
         le-ltb 15 (h .sender) k,
         le-ltb 15 (h .receiver) l,
         le-ltb 20 (length d) m,
         ne-eqb (h .message) 255 n,
-        lt-ltb room place x)
+        lt-ltb room place x,
+      )
 
   pub row-14-room : length d ≤ 20 → h .message ≢ 255 → place ≤ room → room - place < 11 + length d → writingOf room place h d ≡ Refused Refusal.NoRoom
   unfolding writingOf
   row-14-room m n o x =
-      rw
-      (le-ltb 0xFFFFFF (h .source .0) s,
+      rw (
+        le-ltb 0xFFFFFF (h .source .0) s,
         le-ltb 0xFFFFFF (h .destination .0) t,
         le-ltb 15 (h .sender) k,
         le-ltb 15 (h .receiver) l,
         le-ltb 20 (length d) m,
         ne-eqb (h .message) 255 n,
         le-ltb room place o,
-        lt-ltb (room - place) (11 + length d) x)
+        lt-ltb (room - place) (11 + length d) x,
+      )
 
   pub accepted : length d ≤ 20 → h .message ≢ 255 → place + (11 + length d) ≤ room → writingOf room place h d ≡ Next (place + (11 + length d))
   unfolding writingOf
   accepted m n o =
-      rw
-      (le-ltb 0xFFFFFF (h .source .0) s,
+      rw (
+        le-ltb 0xFFFFFF (h .source .0) s,
         le-ltb 0xFFFFFF (h .destination .0) t,
         le-ltb 15 (h .sender) k,
         le-ltb 15 (h .receiver) l,
         le-ltb 20 (length d) m,
         ne-eqb (h .message) 255 n,
         le-ltb room place (omega arith),
-        le-ltb (room - place) (11 + length d) (omega arith))
+        le-ltb (room - place) (11 + length d) (omega arith),
+      )

@@ -3,7 +3,7 @@ use crate::header::Header;
 use crate::sum::sum;
 use refusal::Refusal;
 ghost use mathlib.Core.Path.{_≡_};
-ghost use mathlib.Core.List.{List, [], _∷_, map};
+ghost use mathlib.Core.List.{[], _∷_, map};
 ghost use Prim.Native.Nat.{_≤_, _+_, _/_, _%_};
 ghost use lib.ListN.{length};
 ghost use Rattle.frame.specs.Layout.{inverted};

@@ -1,3 +1,5 @@
+-- Each return is its row's answer: the tests passed so far are the row's facts.
+-- Assumes nothing.
 use borrow.Author.Needs.{needs}
 use native.Mathlib.Omega.{arith}
 use mathlib.Core.Path.{sym}
@@ -5,86 +7,61 @@ use lib.ListN.{length-take}
 use Rattle.frame.proofs.Rows.{row-1, row-2, row-3, row-4, row-5, row-6, no-row}
 use Rattle.frame.proofs.reading.read.Statement.{statement}
 use Rattle.frame.proofs.reading.read.Tie as tie
-use Rattle.frame.proofs.reading.read.Reads as reads
-use Rattle.frame.proofs.reading.read.Lts as lts
-use Rattle.frame.proofs.reading.header.Reads as header-reads
-use Rattle.frame.proofs.reading.pair.Reads as pair-reads
-use Rattle.frame.proofs.reading.wide.Reads as wide-reads
-use Rattle.frame.proofs.sum.sum.Reads as sum-reads
 
--- src/reading.rt:24:9
 returns : tie.Need-returns
 returns c = sym (row-1 (c .before .before .args .bundle .now) (omega arith))
 
--- src/reading.rt:27:9
 returns-2 : tie.Need-returns-2
 returns-2 c = sym (row-2 (c .before .before .before .args .bundle .now) (omega arith) (omega arith))
 
--- src/reading.rt:29:19
 shared-slice-read-length : tie.Need-shared-slice-read-length
 shared-slice-read-length c = search needs
 
--- src/reading.rt:31:9
 returns-3 : tie.Need-returns-3
 returns-3 c = sym (row-3 (c .before .before .before .before .before .args .bundle .now) (omega arith) (omega arith) (omega arith))
 
--- src/reading.rt:33:8
 wide-requires : tie.Need-wide-requires
 wide-requires c κs = search needs
 
--- src/reading.rt:34:9
 returns-4 : tie.Need-returns-4
 returns-4 c = sym (row-4 (c .before .before .before .before .before .before .before .args .bundle .now) (omega arith) (omega arith) (omega arith) (omega arith))
 
--- src/reading.rt:36:16
 sub-body : tie.Need-sub-body
 sub-body c = search needs
 
--- src/reading.rt:37:12
 slice-aggregate-sum : tie.Need-slice-aggregate-sum
 slice-aggregate-sum c = simp length-take (omega arith)
 
--- src/reading.rt:37:8
 sum-requires : tie.Need-sum-requires
 sum-requires c κs = simp length-take (omega arith)
 
--- src/reading.rt:37:37
 shared-slice-read-pair : tie.Need-shared-slice-read-pair
 shared-slice-read-pair c = search needs
 
--- src/reading.rt:37:58
 sub-pair : tie.Need-sub-pair
 sub-pair c = search needs
 
--- src/reading.rt:37:51
 shared-slice-read-pair-2 : tie.Need-shared-slice-read-pair-2
 shared-slice-read-pair-2 c = search needs
 
--- src/reading.rt:37:32
 pair-requires : tie.Need-pair-requires
 pair-requires c κs = search needs
 
--- src/reading.rt:38:9
 returns-5 : tie.Need-returns-5
 returns-5 c = sym (row-5 (c .before .before .before .before .before .before .before .before .before .before .before .before .before .args .bundle .now) (omega arith) (omega arith) (omega arith) (omega arith) (omega arith))
 
--- src/reading.rt:40:9
 shared-slice-read-if6 : tie.Need-shared-slice-read-if6
 shared-slice-read-if6 c = search needs
 
--- src/reading.rt:41:9
 returns-6 : tie.Need-returns-6
 returns-6 c = sym (row-6 (c .before .before .before .before .before .before .before .before .before .before .before .before .before .before .before .args .bundle .now) (omega arith) (omega arith) (omega arith) (omega arith) (omega arith) (omega arith))
 
--- src/reading.rt:43:20
 header-requires : tie.Need-header-requires
 header-requires c κs = search needs
 
--- src/reading.rt:43:36
 sub-t12 : tie.Need-sub-t12
 sub-t12 c = search needs
 
--- src/reading.rt:19:1
 returns-7 : tie.Need-returns-7
 returns-7 c = rw (c .header .ensures) (sym (no-row (c .before .before .before .before .before .before .before .before .before .before .before .before .before .before .before .before .args .bundle .now) (omega arith) (omega arith) (omega arith) (omega arith) (omega arith) (omega arith)))
 

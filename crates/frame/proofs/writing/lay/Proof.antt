@@ -3,7 +3,7 @@
 use borrow.Author.Needs.{needs}
 use Prim.Native.Nat.{ℕ, _+_, _-_, _/_, _%_, _≤_}
 use native.Mathlib.Omega.{arith}
-use mathlib.Core.Path.{_≡_, refl, _∙_, sym, ap}
+use mathlib.Core.Path.{_≡_, refl, _∙_, ap}
 use mathlib.Core.List.{List, [], _∷_, _++_, map}
 use lib.ListN.{length, take, drop, length-map, length-take}
 use lib.Seq.{take-at}
@@ -92,7 +92,7 @@ returns c =
     (take 9 first ++ (second ++ drop (length first - 9) (drop 9 first)))
     (checksum .last .0) (sum .result)
     (on-top (x .part .now) (map inverted (rawHeader (x .header) (length (x .content .now)))) (map inverted (x .content .now)) first second 9
-      refl (omega arith) header (laid-data .lay-inverted2 .ensures))
+    refl (omega arith) header (laid-data .lay-inverted2 .ensures))
     (sum .ensures) (checksum .ensures)
 
 pub lay-spec : {M : Type 1} → statement M

@@ -1,3 +1,5 @@
+-- Two bytes over the first two of the part.
+-- Assumes nothing.
 use borrow.Author.Needs.{needs}
 use Prim.Native.Nat.{_/_, _%_}
 use native.Mathlib.Omega.{arith}
@@ -5,30 +7,22 @@ use mathlib.Core.List.{[], _∷_}
 use lib.Seq.{sets-eq}
 use Rattle.frame.proofs.writing.lay_checksum.Statement.{statement}
 use Rattle.frame.proofs.writing.lay_checksum.Tie as tie
-use Rattle.frame.proofs.writing.lay_checksum.Reads as reads
-use Rattle.frame.proofs.writing.lay_checksum.Lts as lts
 
--- src/writing.rt:118:15
 cast-part : tie.Need-cast-part
 cast-part c = search needs
 
--- src/writing.rt:118:5
 slice-write-part : tie.Need-slice-write-part
 slice-write-part c = search needs
 
--- src/writing.rt:119:15
 cast-part-2 : tie.Need-cast-part-2
 cast-part-2 c = search needs
 
--- src/writing.rt:119:5
 slice-write-part-2 : tie.Need-slice-write-part-2
 slice-write-part-2 c = search needs
 
--- src/writing.rt:114:1
 same-length : tie.Need-same-length
 same-length c = search needs
 
--- src/writing.rt:114:1
 returns : tie.Need-returns
 returns c =
     let x = c .args in

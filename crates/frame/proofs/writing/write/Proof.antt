@@ -12,108 +12,87 @@ use Rattle.frame.proofs.Over.{lent-on}
 use Rattle.frame.proofs.WriterRows.{told, row-10-source, row-10-destination, row-11-sender, row-11-receiver, row-12, row-13, row-14-place, row-14-room, accepted}
 use Rattle.frame.proofs.writing.write.Statement.{statement}
 use Rattle.frame.proofs.writing.write.Tie as tie
-use Rattle.frame.proofs.writing.write.Reads as reads
-use Rattle.frame.proofs.writing.write.Lts as lts
-use Rattle.frame.proofs.writing.lay.Reads as lay-reads
 
--- src/writing.rt:26:9
 returns : tie.Need-returns
 returns c =
     let x = c .before .before .before .before .args in
     told (x .buffer .now) (x .place) (x .header) (x .content .now) (Refused Refusal.AddressTooLarge)
     (row-10-source (length (x .buffer .now)) (x .place) (x .header) (x .content .now) (omega arith))
 
--- src/writing.rt:29:9
 returns-2 : tie.Need-returns-2
 returns-2 c =
     let x = c .before .before .before .before .before .before .args in
     told (x .buffer .now) (x .place) (x .header) (x .content .now) (Refused Refusal.AddressTooLarge)
     (row-10-destination (length (x .buffer .now)) (x .place) (x .header) (x .content .now) (omega arith) (omega arith))
 
--- src/writing.rt:32:9
 returns-3 : tie.Need-returns-3
 returns-3 c =
     let x = c .before .before .before .before .before .before .before .before .args in
     told (x .buffer .now) (x .place) (x .header) (x .content .now) (Refused Refusal.TypeTooLarge)
     (row-11-sender (length (x .buffer .now)) (x .place) (x .header) (x .content .now) (omega arith) (omega arith) (omega arith))
 
--- src/writing.rt:35:9
 returns-4 : tie.Need-returns-4
 returns-4 c =
     let x = c .before .before .before .before .before .before .before .before .before .before .args in
     told (x .buffer .now) (x .place) (x .header) (x .content .now) (Refused Refusal.TypeTooLarge)
     (row-11-receiver (length (x .buffer .now)) (x .place) (x .header) (x .content .now) (omega arith) (omega arith) (omega arith) (omega arith))
 
--- src/writing.rt:39:9
 returns-5 : tie.Need-returns-5
 returns-5 c =
     let x = c .before .before .before .before .before .before .before .before .before .before .before .args in
     told (x .buffer .now) (x .place) (x .header) (x .content .now) (Refused Refusal.TooMuchData)
     (row-12 (length (x .buffer .now)) (x .place) (x .header) (x .content .now) (omega arith) (omega arith) (omega arith) (omega arith) (omega arith))
 
--- src/writing.rt:42:9
 returns-6 : tie.Need-returns-6
 returns-6 c =
     let x = c .before .before .before .before .before .before .before .before .before .before .before .before .before .args in
     told (x .buffer .now) (x .place) (x .header) (x .content .now) (Refused Refusal.ReservedToWrite)
     (row-13 (length (x .buffer .now)) (x .place) (x .header) (x .content .now) (omega arith) (omega arith) (omega arith) (omega arith) (omega arith) (omega arith))
 
--- src/writing.rt:45:9
 returns-7 : tie.Need-returns-7
 returns-7 c =
     let x = c .before .before .before .before .before .before .before .before .before .before .before .before .before .before .args in
     told (x .buffer .now) (x .place) (x .header) (x .content .now) (Refused Refusal.NoRoom)
     (row-14-place (length (x .buffer .now)) (x .place) (x .header) (x .content .now) (omega arith) (omega arith) (omega arith) (omega arith) (omega arith) (omega arith) (omega arith))
 
--- src/writing.rt:47:8
 sub-if8 : tie.Need-sub-if8
 sub-if8 c = search needs
 
--- src/writing.rt:47:31
 add-if8 : tie.Need-add-if8
 add-if8 c = search needs
 
--- src/writing.rt:48:9
 returns-8 : tie.Need-returns-8
 returns-8 c =
     let x = c .before .before .before .before .before .before .before .before .before .before .before .before .before .before .before .args in
     told (x .buffer .now) (x .place) (x .header) (x .content .now) (Refused Refusal.NoRoom)
     (row-14-room (length (x .buffer .now)) (x .place) (x .header) (x .content .now) (omega arith) (omega arith) (omega arith) (omega arith) (omega arith) (omega arith) (omega arith) (omega arith))
 
--- src/writing.rt:50:9
 sub-lay : tie.Need-sub-lay
 sub-lay c = search needs
 
--- src/writing.rt:50:9
 part-lay-start : tie.Need-part-lay-start
 part-lay-start c = search needs
 
--- src/writing.rt:50:9
 part-lay-end : tie.Need-part-lay-end
 part-lay-end c = search needs
 
--- src/writing.rt:50:5
 lay-requires : tie.Need-lay-requires
 lay-requires c κs = search needs
 
--- src/writing.rt:51:28
 add-t15 : tie.Need-add-t15
 add-t15 c = search needs
 
--- src/writing.rt:51:19
 add-t13 : tie.Need-add-t13
 add-t13 c = search needs
 
--- src/writing.rt:21:1
 same-length : tie.Need-same-length
 same-length c = search needs
 
--- src/writing.rt:21:1
 returns-9 : tie.Need-returns-9
 returns-9 c =
     let x = c .before .before .before .before .before .before .before .before .before .before .before .before .before .before .before .before .before .before .before .args in
     let e = told (x .buffer .now) (x .place) (x .header) (x .content .now) (Next (x .place + (11 + length (x .content .now))))
-        (accepted (length (x .buffer .now)) (x .place) (x .header) (x .content .now) (omega arith) (omega arith) (omega arith) (omega arith) (omega arith) (omega arith) (omega arith)) in
+    (accepted (length (x .buffer .now)) (x .place) (x .header) (x .content .now) (omega arith) (omega arith) (omega arith) (omega arith) (omega arith) (omega arith) (omega arith)) in
     (e .0, lent-on (x .buffer .now) (frameOf (x .header) (x .content .now)) (c .before .before .lay .last .0) (x .place) (c .before .before .lay .ensures) ∙ e .1)
 
 pub write-spec : {M : Type 1} → statement M

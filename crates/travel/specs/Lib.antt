@@ -1,0 +1,6 @@
+pub mod Arms
+pub mod Units
+pub mod Nearest
+pub mod Position
+pub mod Share
+pub mod Figures
