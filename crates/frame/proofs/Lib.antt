@@ -8,5 +8,4 @@ pub mod Addresses
 pub mod ReadBack
 pub mod WrittenAgain
 pub mod Buffers
-pub mod Figures
 pub mod Determined

@@ -2,3 +2,4 @@ pub mod Address
 pub mod Layout
 pub mod Reading
 pub mod Writing
+pub mod Figures

@@ -1,0 +1,4 @@
+pub mod Zeros
+pub mod Steps
+pub mod Sound
+pub mod Running

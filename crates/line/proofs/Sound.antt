@@ -1,0 +1,78 @@
+-- A sound reader stays sound, and with no bundle open it is the fresh one.
+-- Assumes nothing.
+use Prim.Native.Nat.{ℕ, zero, suc, _+_, _≤_, _<_}
+use native.Mathlib.Omega.{arith}
+use native.Mathlib.Numerals.{add-one}
+use mathlib.Core.Path.{_≡_, refl, _∙_, sym, ap}
+use mathlib.Core.Logic.{_⊎_, inl, inr, ⊎-elim}
+use mathlib.Core.Bool.{Bool, true, false}
+use mathlib.Core.List.{List, [], _∷_}
+use borrow.Author.Tests.{leb-true, leb-false, le-leb, eqb-true, lt-ltb, le-ltb, ltb-true, ltb-false}
+use lib.Dec.{leb, ltb, eqb}
+use lib.ListN.{length, drop, set, replicate, length-set}
+use lib.Seq.{drop-cons, drop-set-lt}
+use Rattle.meaning.specs.Choice.{if_then_else_, either}
+use Rattle.line.specs.Reader.{reader, begun, noBytes, allZeros, isSound, joined, keptAfter, countAfter, stepped, stepOf}
+use Rattle.line.specs.declared.reader.Reader.{Reader}
+use Rattle.line.specs.declared.reader.Answer.the-variants.{Nothing}
+use Rattle.line.proofs.Zeros.{zeros-end}
+use Rattle.line.proofs.Steps.{ended-empty, step-ends, step-joins}
+
+-- Row 9 as facts, and the length of the kept bytes, which the type says.
+pub record Sound (r : Reader) : Type 0 where
+  pub counted : r .count ≤ 32
+  pub zeros : allZeros (drop (r .count) (r .kept)) ≡ true
+  pub kept-31 : length (r .kept) ≡ 31
+
+both : (s t : Bool) → (if s then t else false) ≡ true → (s ≡ true) × (t ≡ true)
+both true t e = (refl, e)
+both false t e = absurd (let z : _≡_ {A = ℕ} 0 1 = cc in omega arith)
+
+pub sound-facts : (r : Reader) → length (r .kept) ≡ 31 → isSound r ≡ true → Sound r
+sound-facts r n e =
+    let (c, z) = both (leb (r .count) 32) (allZeros (drop (r .count) (r .kept))) e in
+    record { counted = leb-true (r .count) 32 c; zeros = z; kept-31 = n }
+
+pub is-sound : (r : Reader) → Sound r → isSound r ≡ true
+is-sound r s = rw (le-leb (r .count) 32 (s .counted)) (s .zeros)
+
+-- A list of zeros is so many zeros, and its rest is a list of zeros.
+zero-first : (x : ℕ) (l : List ℕ) → allZeros (x ∷ l) ≡ true → (x ≡ 0) × (allZeros l ≡ true)
+unfolding allZeros
+zero-first x l e = let (z, t) = both (eqb x 0) (allZeros l) e in (eqb-true x 0 z, t)
+
+zeros-are : (l : List ℕ) → allZeros l ≡ true → l ≡ replicate (length l) 0
+zeros-are [] e = refl
+zeros-are (x ∷ l) e = let (z, t) = zero-first x l e in cc (zeros-are l t)
+
+zeros-later : (l : List ℕ) (i : ℕ) → i < length l → allZeros (drop i l) ≡ true → allZeros (drop (i + 1) l) ≡ true
+zeros-later l i h e = rw add-one (zero-first _ _ (rw (drop-cons l i 0 h) at e) .1)
+
+-- A byte joins.
+pub sound-joined : (r : Reader) (byte : ℕ) → Sound r → Sound (joined r byte)
+sound-joined r byte s = go (ltb (r .count) 31) refl
+  where
+    go : (t : Bool) → ltb (r .count) 31 ≡ t → Sound (reader (if t then set (r .kept) (r .count) byte else r .kept) (if t then r .count + 1 else 32))
+    go true t =
+        let h : r .count < 31 = ltb-true (r .count) 31 t in
+        let n = s .kept-31 in
+        record {
+          counted = omega arith;
+          zeros = rw (drop-set-lt (r .count + 1) (r .kept) (r .count) byte (omega arith)) (zeros-later (r .kept) (r .count) (omega arith) (s .zeros));
+          kept-31 = simp length-set n;
+        }
+    go false t = let n = s .kept-31 in record { counted = omega arith; zeros = zeros-end (r .kept) 32 (omega arith); kept-31 = n }
+
+-- With no bundle open a byte begins one, whatever the silence before it.
+first-joins : (r : Reader) (byte : ℕ) → Sound r → r .count ≡ 0 → joined r byte ≡ begun byte
+first-joins r byte s e =
+    let z : r .kept ≡ noBytes = zeros-are (r .kept) (rw e at (s .zeros)) ∙ rw (s .kept-31) in
+    rw (e, z)
+
+pub goes-on : (r : Reader) (byte silence : ℕ) → Sound r → (r .count ≡ 0) ⊎ (silence < 30) → stepOf r byte silence ≡ stepped (joined r byte) Nothing noBytes
+goes-on r byte silence s (inr h) = step-joins r byte silence (is-sound r s) h
+goes-on r byte silence s (inl e) = go (leb 30 silence) refl
+  where
+    go : (t : Bool) → leb 30 silence ≡ t → stepOf r byte silence ≡ stepped (joined r byte) Nothing noBytes
+    go true t = step-ends r byte silence (is-sound r s) (leb-true 30 silence t) ∙ ended-empty r (begun byte) e ∙ rw (first-joins r byte s e)
+    go false t = step-joins r byte silence (is-sound r s) (leb-false 30 silence t)

@@ -1,0 +1,67 @@
+-- Each answer of the reader, from the tests that passed before it and the one that decides.
+-- Assumes nothing.
+use Prim.Native.Nat.{ℕ, _≤_, _<_}
+use mathlib.Core.Path.{_≡_}
+use mathlib.Core.Logic.{_≢_}
+use mathlib.Core.Bool.{true, false}
+use borrow.Author.Tests.{le-leb, lt-leb, lt-ltb, le-ltb, eq-eqb, ne-eqb}
+use mathlib.Core.List.{List}
+use lib.ListN.{length, take, drop}
+use Rattle.refusal.specs.declared.Refusal.{Refusal}
+use Rattle.frame.specs.Reading.{readingOf}
+use Rattle.line.specs.Reader.{isSound, endedWith, answeredBy, broken, begun, joined, fresh, stepped, stepOf, closeOf, refusing, runOf, ranOf, noBytes}
+use Rattle.line.specs.declared.reader.Reader.{Reader}
+use Rattle.line.specs.declared.reader.Answer.the-variants.{Nothing, Refused}
+
+module _ (r next : Reader) where
+  pub ended-empty : r .count ≡ 0 → endedWith r next ≡ stepped next Nothing noBytes
+  unfolding endedWith
+  ended-empty e = rw (eq-eqb (r .count) 0 e)
+
+  pub ended-too-long : r .count ≢ 0 → 31 < r .count → endedWith r next ≡ stepped next (Refused Refusal.TooLong) noBytes
+  unfolding endedWith
+  ended-too-long n h = rw (ne-eqb (r .count) 0 n, lt-ltb 31 (r .count) h)
+
+  pub ended-read : r .count ≢ 0 → r .count ≤ 31 → endedWith r next ≡ answeredBy (readingOf (take (r .count) (r .kept))) (r .kept) next
+  unfolding endedWith
+  ended-read n h = rw (ne-eqb (r .count) 0 n, le-ltb 31 (r .count) h)
+
+module _ (r : Reader) (byte silence : ℕ) where
+  pub step-broken : isSound r ≡ false → stepOf r byte silence ≡ broken r
+  unfolding stepOf
+  step-broken e = rw e
+
+  pub step-ends : isSound r ≡ true → 30 ≤ silence → stepOf r byte silence ≡ endedWith r (begun byte)
+  unfolding stepOf
+  step-ends e h = rw (e, le-leb 30 silence h)
+
+  pub step-joins : isSound r ≡ true → silence < 30 → stepOf r byte silence ≡ stepped (joined r byte) Nothing noBytes
+  unfolding stepOf
+  step-joins e h = rw (e, lt-leb 30 silence h)
+
+module _ (r : Reader) where
+  pub close-broken : isSound r ≡ false → closeOf r ≡ broken r
+  unfolding closeOf
+  close-broken e = rw e
+
+  pub close-ends : isSound r ≡ true → closeOf r ≡ endedWith r fresh
+  unfolding closeOf
+  close-ends e = rw e
+
+module _ (r : Reader) (bytes silences : List ℕ) (place : ℕ) where
+  pub run-broken : isSound r ≡ false → ranOf r bytes silences place ≡ refusing r Refusal.BrokenReader place
+  unfolding ranOf
+  run-broken e = rw e
+
+  pub run-unequal : isSound r ≡ true → length bytes ≢ length silences → ranOf r bytes silences place ≡ refusing r Refusal.UnequalRuns place
+  unfolding ranOf
+  run-unequal e n = rw (e, ne-eqb (length bytes) (length silences) n)
+
+  pub run-past-end : isSound r ≡ true → length bytes ≡ length silences → length bytes < place → ranOf r bytes silences place ≡ refusing r Refusal.PlacePastEnd place
+  unfolding ranOf
+  run-past-end e n h = rw (e, eq-eqb (length bytes) (length silences) n, lt-ltb (length bytes) place h)
+
+  pub run-goes : isSound r ≡ true → length bytes ≡ length silences → place ≤ length bytes
+      → ranOf r bytes silences place ≡ runOf r (drop place bytes) (drop place silences) place
+  unfolding ranOf
+  run-goes e n h = rw (e, eq-eqb (length bytes) (length silences) n, le-ltb (length bytes) place h)

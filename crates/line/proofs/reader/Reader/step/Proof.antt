@@ -1,0 +1,58 @@
+-- Row 9, the end of the open bundle, or a byte more.
+-- Assumes nothing.
+use borrow.Author.Needs.{needs}
+use borrow.Author.Tests.{not-true, not-false}
+use Prim.Native.Nat.{ℕ}
+use native.Mathlib.Omega.{arith}
+use mathlib.Core.Path.{_∙_, sym, ap, ap₂}
+use mathlib.Core.List.{List}
+use Rattle.line.specs.Reader.{endedWith, stepped, reader, noBytes}
+use Rattle.line.specs.declared.reader.Reader.{Reader}
+use Rattle.line.specs.declared.reader.Answer.the-variants.{Nothing}
+use Rattle.line.proofs.Steps.{step-broken, step-ends, step-joins}
+use Rattle.line.proofs.reader.Reader.step.Statement.{statement}
+use Rattle.line.proofs.reader.Reader.step.Tie as tie
+
+is-sound-requires : tie.Need-is-sound-requires
+is-sound-requires c κs = search needs
+
+returns : tie.Need-returns
+returns c =
+    let x = c .before .before .args in
+    sym (step-broken (x .self) (x .byte) (x .silence) (sym (c .before .is-sound .ensures) ∙ not-true _ (c .if1 .taken)))
+
+begun-requires : tie.Need-begun-requires
+begun-requires c κs = search needs
+
+ended-requires : tie.Need-ended-requires
+ended-requires c κs = search needs
+
+returns-2 : tie.Need-returns-2
+returns-2 c =
+    let t = c .before .before .before in
+    let x = t .before .before .args in
+    c .ended .ensures
+    ∙ ap (λ (r : Reader). endedWith (x .self) r) (c .before .begun .ensures)
+    ∙ sym (step-ends (x .self) (x .byte) (x .silence) (sym (t .before .is-sound .ensures) ∙ not-false _ (t .if1 .left)) (omega arith))
+
+lay-in-requires : tie.Need-lay-in-requires
+lay-in-requires c κs = search needs
+
+returns-3 : tie.Need-returns-3
+returns-3 c =
+    let t = c .before .before .before .before in
+    let x = t .before .before .args in
+    ap₂ (λ (k : List ℕ) (n : ℕ). stepped (reader k n) Nothing noBytes) (c .lay-in .ensures .1) (c .lay-in .ensures .0)
+    ∙ sym (step-joins (x .self) (x .byte) (x .silence) (sym (t .before .is-sound .ensures) ∙ not-false _ (t .if1 .left)) (omega arith))
+
+pub step-spec : {M : Type 1} → statement M
+step-spec =
+    tie.close
+    (tie.spec
+    is-sound-requires
+    returns
+    begun-requires
+    ended-requires
+    returns-2
+    lay-in-requires
+    returns-3)

@@ -1,0 +1,226 @@
+// The reader is a value that each step takes in and hands back.
+use frame::Header;
+use frame::Reading;
+use frame::read;
+use refusal::Refusal;
+ghost use mathlib.Core.Path.{_≡_};
+ghost use mathlib.Core.Bool.{true};
+ghost use Prim.Native.Nat.{_≤_};
+ghost use lib.ListN.{length, drop};
+ghost use Rattle.line.specs.Reader.{fresh, begun, isSound, keptAfter, countAfter, endedWith, stepOf, closeOf, refusing, runOf, ranOf};
+
+pub struct Reader {
+    // The bundle's first bytes, at most 31, then zeros.
+    pub kept: [u8; 31],
+    // How many bytes the open bundle has; 32 stands for too long.
+    pub count: usize,
+}
+
+pub enum Answer {
+    // No bundle has ended.
+    Nothing,
+    // A bundle has ended that is a frame: its header, and how many bytes of DATA it has.
+    Frame(Header, usize),
+    // A bundle has ended that is none, or row 7, 8 or 9.
+    Refused(Refusal),
+}
+
+pub struct Stepped {
+    pub reader: Reader,
+    pub answer: Answer,
+    // The frame's bytes, then zeros; all zeros where the answer is no frame.
+    pub bundle: [u8; 31],
+}
+
+pub struct Ran {
+    pub stepped: Stepped,
+    // Up to here the runs are read.
+    pub place: usize,
+}
+
+// A silence of this many tenths of a millisecond ends the bundle before it.
+const ENDING: u16 = 30;
+
+impl Reader {
+    // No bundle is open.
+    pub fn fresh() -> Reader
+        ensures { λ r. ⌜ r ≡ fresh ⌝ }
+    {
+        Reader {
+            kept: [0; 31],
+            count: 0,
+        }
+    }
+
+    // A byte, with the silence before it.
+    pub fn step(self, byte: u8, silence: u16) -> Stepped
+        ensures { λ r. ⌜ r ≡ stepOf self byte silence ⌝ }
+    {
+        if !self.is_sound() {
+            return Stepped {
+                reader: self,
+                answer: Answer::Refused(Refusal::BrokenReader),
+                bundle: [0; 31],
+            };
+        }
+        if silence >= ENDING {
+            return self.ended(Reader::begun(byte));
+        }
+        let mut kept = self.kept;
+        let count = lay_in(&mut kept, self.count, byte);
+        let reader = Reader { kept, count };
+        Stepped {
+            reader,
+            answer: Answer::Nothing,
+            bundle: [0; 31],
+        }
+    }
+
+    // The end of the recording.
+    pub fn close(self) -> Stepped
+        ensures { λ r. ⌜ r ≡ closeOf self ⌝ }
+    {
+        if !self.is_sound() {
+            return Stepped {
+                reader: self,
+                answer: Answer::Refused(Refusal::BrokenReader),
+                bundle: [0; 31],
+            };
+        }
+        self.ended(Reader::fresh())
+    }
+
+    // The same over two lent runs, from a place on: it stops after the byte that ends a bundle, or at the end.
+    pub fn run(self, bytes: &[u8], silences: &[u16], place: usize) -> Ran
+        ensures { λ r. ⌜ r ≡ ranOf self (now (bytes .entry)) (now (silences .entry)) place ⌝ }
+    {
+        if !self.is_sound() {
+            return self.refusing(Refusal::BrokenReader, place);
+        }
+        if bytes.len() != silences.len() {
+            return self.refusing(Refusal::UnequalRuns, place);
+        }
+        if place > bytes.len() {
+            return self.refusing(Refusal::PlacePastEnd, place);
+        }
+        self.go_on(bytes, silences, place)
+    }
+
+    // The runs are not read, and the reader stays as it is.
+    fn refusing(self, refusal: Refusal, place: usize) -> Ran
+        ensures { λ r. ⌜ r ≡ refusing self refusal place ⌝ }
+    {
+        let stepped = Stepped {
+            reader: self,
+            answer: Answer::Refused(refusal),
+            bundle: [0; 31],
+        };
+        Ran { stepped, place }
+    }
+
+    // A sound reader stays sound, so row 9 is checked once, and each byte is only laid among the kept.
+    fn go_on(self, bytes: &[u8], silences: &[u16], place: usize) -> Ran
+        requires { ⌜ (isSound self ≡ true) × (length (now bytes) ≡ length (now silences)) × (place ≤ length (now bytes)) ⌝ }
+        ensures { λ r. ⌜ r ≡ runOf self (drop place (now (bytes .entry))) (drop place (now (silences .entry))) place ⌝ }
+    {
+        let mut kept = self.kept;
+        let mut count = self.count;
+        let mut i = place;
+        while i < bytes.len() {
+            let byte = bytes[i];
+            if count != 0 {
+                if silences[i] >= ENDING {
+                    let open = Reader { kept, count };
+                    let stepped = open.ended(Reader::begun(byte));
+                    return Ran {
+                        stepped,
+                        place: i + 1,
+                    };
+                }
+            }
+            count = lay_in(&mut kept, count, byte);
+            i += 1;
+        }
+        let reader = Reader { kept, count };
+        let stepped = Stepped {
+            reader,
+            answer: Answer::Nothing,
+            bundle: [0; 31],
+        };
+        Ran { stepped, place: i }
+    }
+
+    // The open bundle ends, and the reader goes on as `next`.
+    fn ended(self, next: Reader) -> Stepped
+        ensures { λ r. ⌜ r ≡ endedWith self next ⌝ }
+    {
+        let kept = self.kept;
+        let count = self.count;
+        if count == 0 {
+            return Stepped {
+                reader: next,
+                answer: Answer::Nothing,
+                bundle: [0; 31],
+            };
+        }
+        if count > 31 {
+            return Stepped {
+                reader: next,
+                answer: Answer::Refused(Refusal::TooLong),
+                bundle: [0; 31],
+            };
+        }
+        let reading = read(&kept[..count]);
+        match reading {
+            Reading::Frame(header, content) => Stepped {
+                reader: next,
+                answer: Answer::Frame(header, content),
+                bundle: kept,
+            },
+            Reading::Refused(refusal) => Stepped {
+                reader: next,
+                answer: Answer::Refused(refusal),
+                bundle: [0; 31],
+            },
+        }
+    }
+
+    // The reader that has this byte as its bundle's first.
+    fn begun(byte: u8) -> Reader
+        ensures { λ r. ⌜ r ≡ begun byte ⌝ }
+    {
+        let mut kept = [0u8; 31];
+        kept[0] = byte;
+        Reader { kept, count: 1 }
+    }
+
+    // Row 9: at most 32 bytes counted, and zeros beyond them.
+    fn is_sound(self) -> bool
+        ensures { λ r. ⌜ r ≡ isSound self ⌝ }
+    {
+        let kept = self.kept;
+        let count = self.count;
+        if count > 32 {
+            return false;
+        }
+        let mut i = count;
+        while i < 31 {
+            if kept[i] != 0 {
+                return false;
+            }
+            i += 1;
+        }
+        true
+    }
+}
+
+// A byte joins the open bundle: it is kept while there is room, and the bundle is too long from the 32nd on.
+fn lay_in(kept: &mut [u8; 31], count: usize, byte: u8) -> usize
+    ensures { λ r. ⌜ (r ≡ countAfter count) × (now (kept .exit) ≡ keptAfter (now (kept .entry)) count byte) ⌝ }
+{
+    if count < 31 {
+        kept[count] = byte;
+        return count + 1;
+    }
+    32
+}
