@@ -3,7 +3,7 @@
 use Prim.Native.Nat.{ℕ, _≤_}
 use native.Mathlib.Omega.{arith}
 use mathlib.Core.Path.{_≡_, refl, ap}
-use mathlib.Core.Logic.{_↔_}
+use mathlib.Core.Logic.{_↔_, _⊎_, inl, inr}
 use mathlib.Core.Bool.{not}
 use mathlib.Core.List.{List}
 use borrow.Author.Tests.{leb-false, eqb-true, eqb-false, not-false}
@@ -64,3 +64,11 @@ numbered b r (as-refused q l u) n = (q, refl, l, u)
 
 pub refused-otherwise : (b : List ℕ) → ¬ IsFrame b → Numbered (readingOf b)
 refused-otherwise b = numbered b (readingOf b) (answered b)
+
+-- One or the other.
+either-way : (b : List ℕ) (r : Reading) → Answered b r → IsFrame b ⊎ Numbered r
+either-way b r (as-frame f) = inl f
+either-way b r (as-refused q l u) = inr (q, refl, l, u)
+
+pub frame-or-refused : (b : List ℕ) → IsFrame b ⊎ Numbered (readingOf b)
+frame-or-refused b = either-way b (readingOf b) (answered b)

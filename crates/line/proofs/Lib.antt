@@ -2,3 +2,9 @@ pub mod Zeros
 pub mod Steps
 pub mod Sound
 pub mod Running
+pub mod Apart
+pub mod Single
+pub mod Recording
+pub mod Machine
+pub mod Sense
+pub mod Demand3

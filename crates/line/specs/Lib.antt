@@ -1,1 +1,4 @@
 pub mod Reader
+pub mod Telling
+pub mod Bundles
+pub mod Damage
