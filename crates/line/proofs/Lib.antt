@@ -2,9 +2,12 @@ pub mod Zeros
 pub mod Steps
 pub mod Sound
 pub mod Running
+pub mod Parts
 pub mod Apart
 pub mod Single
 pub mod Recording
 pub mod Machine
 pub mod Sense
 pub mod Demand3
+pub mod Examples
+pub mod Determined

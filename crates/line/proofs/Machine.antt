@@ -2,29 +2,26 @@
 -- Assumes nothing.
 use Prim.Native.Nat.{ℕ, zero, suc, _+_, _-_, _≤_, _<_, min}
 use native.Mathlib.Omega.{arith}
-use mathlib.Core.Path.{_≡_, refl, sym, ap, ap₂, _∙_}
-use mathlib.Core.Logic.{_≢_, _⊎_, inl, inr, ⊎-elim}
+use mathlib.Core.Path.{_≡_, refl, ap, ap₂}
+use mathlib.Core.Logic.{_≢_, _⊎_, inl, inr}
 use mathlib.Core.Bool.{Bool, true, false}
 use mathlib.Core.List.{List, [], _∷_, _++_, map, append-assoc}
-use borrow.Author.Tests.{ltb-true, ltb-false, leb-true, leb-false, le-leb, lt-leb}
-use lib.Dec.{eqb, leb, ltb}
+use borrow.Author.Tests.{ltb-true, ltb-false, leb-true, leb-false}
+use lib.Dec.{leb, ltb}
 use lib.ListN.{length, take, drop, set, replicate, length-append, length-take, length-replicate}
 use lib.Seq.{take-all, take-append-seam, drop-append-seam, take-append-le, set-append-seam, append-snoc}
-use Rattle.meaning.specs.Choice.{if_then_else_, either}
-use Rattle.refusal.specs.Number.{numberOf}
+use Rattle.meaning.specs.Choice.{if_then_else_}
 use Rattle.frame.specs.Layout.{headerOf, dataCount}
 use Rattle.frame.specs.Reading.{IsFrame, readingOf}
-use Rattle.frame.specs.declared.reading.Reading.{Reading}
 use Rattle.frame.proofs.Frames.{Numbered, frame-or-refused, frame-is-read}
 use Rattle.frame.proofs.Rows.{row-2}
-use Rattle.line.specs.Reader.{isSound, reader, fresh, begun, joined, keptAfter, countAfter, endedWith, answeredBy, stepped, stepOf, closeOf, allZeros}
-use Rattle.line.specs.Telling.{Entry, after, Told, frame, refused, said, wholly}
-use Rattle.line.specs.Bundles.{ends, join, bundles, toldOf, bundleTold}
+use Rattle.line.specs.Reader.{isSound, reader, fresh, begun, joined, endedWith, answeredBy, stepOf, closeOf, allZeros}
+use Rattle.line.specs.Telling.{Entry, after, Told, frame, said, wholly}
+use Rattle.line.specs.Bundles.{ends, join, bundles, bundleTold}
 use Rattle.line.specs.declared.reader.Reader.{Reader}
-use Rattle.line.specs.declared.reader.Stepped.{Stepped}
 use Rattle.line.proofs.Zeros.{zeros-end}
 use Rattle.line.proofs.Sound.{Sound, is-sound}
-use Rattle.line.proofs.Steps.{ended-empty, ended-too-long, ended-read, step-ends, step-joins, close-ends}
+use Rattle.line.proofs.Steps.{ended-empty, ended-too-long, ended-read, goes-on-as, step-ends, step-joins, close-ends}
 
 -- The kept bytes of an open bundle b: its first 31, then zeros.
 abbrev padded : List ℕ → List ℕ
@@ -116,18 +113,6 @@ ended-is (c ∷ b) next = go (ltb 31 (min (length (c ∷ b)) 32)) refl
         let h : min (length (c ∷ b)) 32 ≤ 31 = ltb-false 31 (min (length (c ∷ b)) 32) t in
         let m : min (length (c ∷ b)) 32 ≡ length (c ∷ b) = omega arith in
         rw (ended-read (holds (c ∷ b)) next some h, m, take-padded (c ∷ b) (omega arith)) (told-same (c ∷ b) next (omega arith))
-
--- The reader after it is the next.
-next-of : (q : Reading) (kept : List ℕ) (next : Reader) → answeredBy q kept next .reader ≡ next
-next-of (Reading.Frame h n) kept next = refl
-next-of (Reading.Refused r) kept next = refl
-
-pub goes-on-as : (r next : Reader) → endedWith r next .reader ≡ next
-unfolding endedWith
-goes-on-as r next =
-    either (λ (s : Stepped). s .reader ≡ next) (eqb (r .count) 0) (λ t. refl) λ some.
-    either (λ (s : Stepped). s .reader ≡ next) (ltb 31 (r .count)) (λ t. refl) λ short.
-    next-of (readingOf (take (r .count) (r .kept))) (r .kept) next
 
 -- The bundles of what is open and what follows.
 abbrev glue : List ℕ → Bool → List (List ℕ) → List (List ℕ)

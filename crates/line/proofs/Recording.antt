@@ -1,9 +1,9 @@
 -- Of a recording of frames, each with at most one fault, the bundles give the unharmed ones, in order, and refuse the rest.
 -- Assumes nothing.
-use Prim.Native.Nat.{ℕ, zero, suc, _+_, _≤_, _<_}
+use Prim.Native.Nat.{ℕ, suc, _+_, _<_}
 use native.Mathlib.Omega.{arith}
-use mathlib.Core.Path.{_≡_, refl, sym, ap, subst, _∙_}
-use mathlib.Core.Bool.{Bool, true, false, not}
+use mathlib.Core.Path.{_≡_, refl, ap}
+use mathlib.Core.Bool.{true}
 use mathlib.Core.List.{List, [], _∷_, _++_, map}
 use borrow.Author.Tests.{le-leb, lt-leb}
 use lib.ListN.{length, take, drop, set, length-append, length-take, length-drop, length-set}
@@ -11,7 +11,7 @@ use Rattle.refusal.specs.Number.{numberOf}
 use Rattle.frame.specs.Layout.{headerOf}
 use Rattle.frame.specs.Reading.{IsFrame}
 use Rattle.frame.proofs.Frames.{frame-is-read, refused-otherwise}
-use Rattle.line.specs.Telling.{Entry, after, Told, frame, refused}
+use Rattle.line.specs.Telling.{Entry, Told, frame, refused}
 use Rattle.line.specs.Bundles.{ends, join, bundles, bundleTold}
 use Rattle.line.specs.Damage.{Sent, whole, harmed, heard, unharmed, Pieces, none, empty, begin, Rest, over, within, handed, Number, Numbered, Owed, nothing, itself, once, twice, Fault, change, lose, insert, pause, lose-pause, Befalls, pieces}
 use Rattle.line.proofs.Single.{all-refused}

@@ -1,13 +1,12 @@
 -- One fault on a frame: no piece of what is heard is a frame.
 -- Assumes nothing.
-use Prim.Native.Nat.{ℕ, zero, suc, _+_, _-_, _*_, _≤_, _<_}
+use Prim.Native.Nat.{ℕ, suc, _<_}
 use native.Mathlib.Omega.{arith}
-use mathlib.Core.Path.{_≡_, refl, sym, ap, subst, _∙_}
+use mathlib.Core.Path.{refl, sym}
 use mathlib.Core.Logic.{_≢_}
 use mathlib.Core.List.{List, [], _∷_, _++_, append-assoc}
-use lib.ListN.{length, getD, take, drop, set, length-append, List·getD-append, take-append-drop, length-drop, length-take}
+use lib.ListN.{length, getD, take, drop, length-append, List·getD-append, take-append-drop, length-drop, length-take}
 use lib.Seq.{split-at, set-split}
-use Rattle.frame.specs.Layout.{sumOf}
 use Rattle.frame.specs.Reading.{IsFrame}
 use Rattle.line.specs.Damage.{Fault, change, lose, insert, pause, lose-pause, pieces, Befalls}
 use Rattle.line.proofs.Apart.{by-len, by-sum, states, last-one, sum-append}

@@ -1,22 +1,23 @@
 -- A sound reader stays sound, and with no bundle open it is the fresh one.
 -- Assumes nothing.
-use Prim.Native.Nat.{ℕ, zero, suc, _+_, _≤_, _<_}
+use Prim.Native.Nat.{ℕ, _+_, _≤_, _<_}
 use native.Mathlib.Omega.{arith}
 use native.Mathlib.Numerals.{add-one}
-use mathlib.Core.Path.{_≡_, refl, _∙_, sym, ap}
-use mathlib.Core.Logic.{_⊎_, inl, inr, ⊎-elim}
+use mathlib.Core.Path.{_≡_, refl, _∙_}
+use mathlib.Core.Logic.{_⊎_, inl, inr}
 use mathlib.Core.Bool.{Bool, true, false}
 use mathlib.Core.List.{List, [], _∷_}
-use borrow.Author.Tests.{leb-true, leb-false, le-leb, eqb-true, lt-ltb, le-ltb, ltb-true, ltb-false}
+use borrow.Author.Tests.{leb-true, leb-false, le-leb, eqb-true, ltb-true}
 use lib.Dec.{leb, ltb, eqb}
 use lib.ListN.{length, drop, set, replicate, length-set}
 use lib.Seq.{drop-cons, drop-set-lt}
-use Rattle.meaning.specs.Choice.{if_then_else_, either}
-use Rattle.line.specs.Reader.{reader, begun, noBytes, allZeros, isSound, joined, keptAfter, countAfter, stepped, stepOf}
+use Rattle.meaning.specs.Choice.{if_then_else_}
+use Rattle.line.specs.Telling.{Entry, after, readerAfter}
+use Rattle.line.specs.Reader.{fresh, reader, begun, noBytes, allZeros, isSound, joined, stepped, stepOf}
 use Rattle.line.specs.declared.reader.Reader.{Reader}
 use Rattle.line.specs.declared.reader.Answer.the-variants.{Nothing}
 use Rattle.line.proofs.Zeros.{zeros-end}
-use Rattle.line.proofs.Steps.{ended-empty, step-ends, step-joins}
+use Rattle.line.proofs.Steps.{ended-empty, goes-on-as, step-ends, step-joins}
 
 -- Row 9 as facts, and the length of the kept bytes, which the type says.
 pub record Sound (r : Reader) : Type 0 where
@@ -76,3 +77,26 @@ goes-on r byte silence s (inl e) = go (leb 30 silence) refl
     go : (t : Bool) → leb 30 silence ≡ t → stepOf r byte silence ≡ stepped (joined r byte) Nothing noBytes
     go true t = step-ends r byte silence (is-sound r s) (leb-true 30 silence t) ∙ ended-empty r (begun byte) e ∙ rw (first-joins r byte s e)
     go false t = step-joins r byte silence (is-sound r s) (leb-false 30 silence t)
+
+begun-sound : (byte : ℕ) → Sound (begun byte)
+unfolding allZeros
+begun-sound byte = record { counted = omega arith; zeros = refl; kept-31 = refl }
+
+pub fresh-sound : Sound fresh
+unfolding allZeros
+fresh-sound = record { counted = omega arith; zeros = refl; kept-31 = refl }
+
+-- After any step, and after any recording, a sound reader is sound: it never refuses its own state.
+pub sound-step : (r : Reader) (byte silence : ℕ) → Sound r → Sound (stepOf r byte silence .reader)
+sound-step r byte silence s = go (leb 30 silence) refl
+  where
+    go : (t : Bool) → leb 30 silence ≡ t → Sound (stepOf r byte silence .reader)
+    go true t = rw (step-ends r byte silence (is-sound r s) (leb-true 30 silence t), goes-on-as r (begun byte)) (begun-sound byte)
+    go false t = rw (step-joins r byte silence (is-sound r s) (leb-false 30 silence t)) (sound-joined r byte s)
+
+pub sound-after : (r : Reader) (es : List Entry) → Sound r → Sound (readerAfter r es)
+sound-after r [] s = s
+sound-after r (after silence byte ∷ es) s = sound-after (stepOf r byte silence .reader) es (sound-step r byte silence s)
+
+pub never-broken : (es : List Entry) → isSound (readerAfter fresh es) ≡ true
+never-broken es = is-sound (readerAfter fresh es) (sound-after fresh es fresh-sound)

@@ -1,14 +1,19 @@
 -- Each answer of the reader, from the tests that passed before it and the one that decides.
 -- Assumes nothing.
 use Prim.Native.Nat.{ℕ, _≤_, _<_}
-use mathlib.Core.Path.{_≡_}
+use mathlib.Core.Path.{_≡_, refl}
 use mathlib.Core.Logic.{_≢_}
-use mathlib.Core.Bool.{true, false}
-use borrow.Author.Tests.{le-leb, lt-leb, lt-ltb, le-ltb, eq-eqb, ne-eqb}
+use mathlib.Core.Bool.{Bool, true, false}
+use borrow.Author.Tests.{eqb-true, eqb-false, ltb-true, ltb-false, le-leb, lt-leb, lt-ltb, le-ltb, eq-eqb, ne-eqb}
 use mathlib.Core.List.{List}
 use lib.ListN.{length, take, drop}
+use lib.Dec.{eqb, ltb}
+use Rattle.meaning.specs.Choice.{either}
 use Rattle.refusal.specs.declared.Refusal.{Refusal}
 use Rattle.frame.specs.Reading.{readingOf}
+use Rattle.frame.specs.declared.reading.Reading.{Reading}
+use Rattle.line.specs.Telling.{said}
+use Rattle.line.specs.declared.reader.Stepped.{Stepped}
 use Rattle.line.specs.Reader.{isSound, endedWith, answeredBy, broken, begun, joined, fresh, stepped, stepOf, closeOf, refusing, runOf, ranOf, noBytes}
 use Rattle.line.specs.declared.reader.Reader.{Reader}
 use Rattle.line.specs.declared.reader.Answer.the-variants.{Nothing, Refused}
@@ -25,6 +30,35 @@ module _ (r next : Reader) where
   pub ended-read : r .count ≢ 0 → r .count ≤ 31 → endedWith r next ≡ answeredBy (readingOf (take (r .count) (r .kept))) (r .kept) next
   unfolding endedWith
   ended-read n h = rw (ne-eqb (r .count) 0 n, le-ltb 31 (r .count) h)
+
+-- The reader goes on as the next, and what is told does not depend on it.
+next-of : (q : Reading) (kept : List ℕ) (next : Reader) → answeredBy q kept next .reader ≡ next
+next-of (Reading.Frame h n) kept next = refl
+next-of (Reading.Refused r) kept next = refl
+
+pub goes-on-as : (r next : Reader) → endedWith r next .reader ≡ next
+unfolding endedWith
+goes-on-as r next =
+    either (λ (s : Stepped). s .reader ≡ next) (eqb (r .count) 0) (λ t. refl) λ some.
+    either (λ (s : Stepped). s .reader ≡ next) (ltb 31 (r .count)) (λ t. refl) λ short.
+    next-of (readingOf (take (r .count) (r .kept))) (r .kept) next
+
+same-told : (q : Reading) (kept : List ℕ) (next other : Reader) → said (answeredBy q kept next) ≡ said (answeredBy q kept other)
+same-told (Reading.Frame h n) kept next other = refl
+same-told (Reading.Refused r) kept next other = refl
+
+pub told-alike : (r next other : Reader) → said (endedWith r next) ≡ said (endedWith r other)
+told-alike r next other = go (eqb (r .count) 0) refl (ltb 31 (r .count)) refl
+  where
+    go : (t : Bool) → eqb (r .count) 0 ≡ t → (u : Bool) → ltb 31 (r .count) ≡ u → said (endedWith r next) ≡ said (endedWith r other)
+    go true t u v = rw (ended-empty r next (eqb-true (r .count) 0 t), ended-empty r other (eqb-true (r .count) 0 t))
+    go false t true v =
+        let n = eqb-false (r .count) 0 t in
+        rw (ended-too-long r next n (ltb-true 31 (r .count) v), ended-too-long r other n (ltb-true 31 (r .count) v))
+    go false t false v =
+        let n = eqb-false (r .count) 0 t in
+        rw (ended-read r next n (ltb-false 31 (r .count) v), ended-read r other n (ltb-false 31 (r .count) v))
+        (same-told (readingOf (take (r .count) (r .kept))) (r .kept) next other)
 
 module _ (r : Reader) (byte silence : ℕ) where
   pub step-broken : isSound r ≡ false → stepOf r byte silence ≡ broken r

@@ -41,3 +41,9 @@ readerAfter r (after silence byte ∷ es) = readerAfter (stepOf r byte silence .
 abbrev pub wholly : Reader → List Entry → List Told
 wholly r [] = said (closeOf r)
 wholly r (after silence byte ∷ es) = said (stepOf r byte silence) ++ wholly (stepOf r byte silence .reader) es
+
+-- Two lent runs as a recording.
+abbrev pub entries : (bytes silences : List ℕ) → List Entry
+entries [] silences = []
+entries (byte ∷ bytes) [] = []
+entries (byte ∷ bytes) (silence ∷ silences) = after silence byte ∷ entries bytes silences

@@ -9,42 +9,31 @@ use Rattle.line.specs.Reader.{answeredBy}
 use Rattle.line.proofs.Steps.{ended-empty, ended-too-long, ended-read}
 use Rattle.line.proofs.reader.Reader.ended.Statement.{statement}
 use Rattle.line.proofs.reader.Reader.ended.Tie as tie
-use Rattle.line.proofs.reader.Reader.ended.Reads as reads
-use Rattle.line.proofs.reader.Reader.ended.Lts as lts
-use Rattle.frame.proofs.read.Reads as read-reads
 
--- src/reader.rt:100:13
 len : (c : tie.Start) → length (c .args .self .kept) ≡ 31
 len c = simp length-map at (c .good .0 .1 .1 .0 .1 .0 .1)
 
 returns : tie.Need-returns
 returns c = sym (ended-empty (c .before .before .args .self) (c .before .before .args .next) (c .if1 .taken))
 
--- src/reader.rt:107:13
 returns-2 : tie.Need-returns-2
 returns-2 c = sym (ended-too-long (c .before .before .before .args .self) (c .before .before .before .args .next) (c .before .if1 .left) (omega arith))
 
--- src/reader.rt:113:28
 array-share-prefix-kept : tie.Need-array-share-prefix-kept
 array-share-prefix-kept c = let n = len (c .before .before .before) in omega arith
 
--- src/reader.rt:113:28
 slice-aggregate-read : tie.Need-slice-aggregate-read
 slice-aggregate-read c = let n = len (c .before .before .before .before) in simp length-take (omega arith)
 
--- src/reader.rt:113:13
 read-requires : tie.Need-read-requires
 read-requires c κs = search needs
 
--- src/reader.rt:115:28
 enum-known-reading : tie.Need-enum-known-reading
 enum-known-reading c = search needs
 
--- src/reader.rt:120:30
 enum-known-reading-2 : tie.Need-enum-known-reading-2
 enum-known-reading-2 c = search needs
 
--- src/reader.rt:93:5
 returns-3 : tie.Need-returns-3
 returns-3 c =
     let s = c .before .before .before in
@@ -53,7 +42,6 @@ returns-3 c =
     (ended-read (x .self) (x .next) (s .before .before .before .if1 .left) (omega arith)
     ∙ ap (λ (r : Reading). answeredBy r (x .self .kept) (x .next)) (sym (s .read .ensures) ∙ c .before .reading .given .1))
 
--- src/reader.rt:93:5
 returns-4 : tie.Need-returns-4
 returns-4 c =
     let s = c .before .before .before in

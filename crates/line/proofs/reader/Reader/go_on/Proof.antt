@@ -1,12 +1,11 @@
 -- The run from here is the run from the start; the reader stays sound.
 -- Assumes nothing.
 use borrow.Author.Needs.{needs}
-use Prim.Native.Nat.{ℕ, _≤_, _-_}
+use Prim.Native.Nat.{_≤_, _-_}
 use native.Mathlib.Omega.{arith}
 use mathlib.Core.Path.{_≡_, refl, _∙_, sym, ap, ap₂}
-use mathlib.Core.List.{List}
 use mathlib.Core.Logic.{inl, inr, ⊎-elim}
-use mathlib.Core.Bool.{true, false}
+use mathlib.Core.Bool.{false}
 use lib.ListN.{length, getD, drop, length-map}
 use Rattle.line.specs.Reader.{reader, joined, stepped, goesOn, endedWith, stepOf, runOf, noBytes}
 use Rattle.line.specs.declared.reader.Reader.{Reader}
@@ -17,8 +16,6 @@ use Rattle.line.proofs.Running.{one-more, last-one, at-end, ended-stops
 use Rattle.line.proofs.Steps.{step-ends}
 use Rattle.line.proofs.reader.Reader.go_on.Statement.{statement}
 use Rattle.line.proofs.reader.Reader.go_on.Tie as tie
-use Rattle.line.proofs.reader.Reader.go_on.Reads as reads
-use Rattle.line.proofs.reader.Reader.go_on.Lts as lts
 
 abbrev Inv-loop : tie.InvT-loop
 Inv-loop bytes silences place kept₀ count₀ i₀ kept count i =
@@ -63,8 +60,8 @@ returns c =
     let r = reader (l .loop .kept) (l .loop .count) in
     let byte = getD (x .bytes .now) (l .loop .i) 0 in
     let ends : stepOf r byte (getD (x .silences .now) (l .loop .i) 0) ≡ c .ended .result =
-        step-ends r byte (getD (x .silences .now) (l .loop .i) 0) (is-sound r (l .loop .inv .1)) (c .before .before .if2 .taken)
-        ∙ ap (λ (next : Reader). endedWith r next) (sym (c .before .begun .ensures)) ∙ sym (c .ended .ensures) in
+    step-ends r byte (getD (x .silences .now) (l .loop .i) 0) (is-sound r (l .loop .inv .1)) (c .before .before .if2 .taken)
+    ∙ ap (λ (next : Reader). endedWith r next) (sym (c .before .begun .ensures)) ∙ sym (c .ended .ensures) in
     let stops : goesOn (c .ended .result .answer) ≡ false = ap (λ (s : Stepped). goesOn (s .answer)) (c .ended .ensures) ∙ ended-stops r (c .before .begun .result) (t .if1 .taken) in
     sym (last-one r (x .bytes .now) (x .silences .now) (l .loop .i) (c .ended .result) (omega arith) (omega arith) ends stops) ∙ l .loop .inv .2
 
@@ -86,10 +83,11 @@ loop-again c =
     let byte = getD (x .bytes .now) (l .loop .i) 0 in
     let next : reader (c .lay-in .last .0) (c .lay-in .result) ≡ joined r byte = ap₂ reader (c .lay-in .ensures .1) (c .lay-in .ensures .0) in
     let goes : stepOf r byte (getD (x .silences .now) (l .loop .i) 0) ≡ stepped (joined r byte) Nothing noBytes =
-        goes-on r byte (getD (x .silences .now) (l .loop .i) 0) (l .loop .inv .1) (⊎-elim (λ w. inr (w .2 .left)) (λ w. inl (w .left)) (j .if1 .came)) in
-    (search needs,
+    goes-on r byte (getD (x .silences .now) (l .loop .i) 0) (l .loop .inv .1) (⊎-elim (λ w. inr (w .2 .left)) (λ w. inl (w .left)) (j .if1 .came)) in (
+      search needs,
       rw next (sound-joined r byte (l .loop .inv .1)),
-      rw next (sym (one-more r (x .bytes .now) (x .silences .now) (l .loop .i) (joined r byte) (omega arith) (omega arith) goes) ∙ l .loop .inv .2))
+      rw next (sym (one-more r (x .bytes .now) (x .silences .now) (l .loop .i) (joined r byte) (omega arith) (omega arith) goes) ∙ l .loop .inv .2),
+    )
 
 returns-2 : tie.Need-returns-2 Inv-loop μ-loop
 returns-2 c =

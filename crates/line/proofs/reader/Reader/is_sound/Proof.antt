@@ -10,8 +10,6 @@ use Rattle.line.specs.Reader.{allZeros}
 use Rattle.line.proofs.Zeros.{zeros-go-on, zeros-stop, zeros-end}
 use Rattle.line.proofs.reader.Reader.is_sound.Statement.{statement}
 use Rattle.line.proofs.reader.Reader.is_sound.Tie as tie
-use Rattle.line.proofs.reader.Reader.is_sound.Reads as reads
-use Rattle.line.proofs.reader.Reader.is_sound.Lts as lts
 
 abbrev Inv-loop : tie.InvT-loop
 Inv-loop kept count i₀ i = allZeros (drop i kept) ≡ allZeros (drop count kept)

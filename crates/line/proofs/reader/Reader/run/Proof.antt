@@ -49,8 +49,10 @@ returns-4 : tie.Need-returns-4
 returns-4 c =
     let t = c .before .before .before in
     let x = t .before .before .before .before .args in
-    c .go-on .ensures
-    ∙ sym (run-goes (x .self) (x .bytes .now) (x .silences .now) (x .place) (sym (t .before .is-sound .ensures) ∙ not-false _ (t .if1 .left)) (c .before .before .if2 .left) (omega arith))
+    rw
+    (run-goes (x .self) (x .bytes .now) (x .silences .now) (x .place) (sym (t .before .is-sound .ensures) ∙ not-false _ (t .if1 .left)) (c .before .before .if2 .left)
+    (omega arith))
+    (c .go-on .ensures)
 
 pub run-spec : {M : Type 1} → statement M
 run-spec =
