@@ -177,9 +177,9 @@ impl Reader {
                 answer: Answer::Frame(header, content),
                 bundle: kept,
             },
-            Reading::Refused(refusal) => Stepped {
+            Reading::Refused(reason) => Stepped {
                 reader: next,
-                answer: Answer::Refused(refusal),
+                answer: Answer::Refused(reason),
                 bundle: [0; 31],
             },
         }
