@@ -17,7 +17,7 @@ use Rattle.frame.specs.Writing.{rawHeader, ackLength, frameOf, Writable}
 use Rattle.frame.specs.declared.address.Address.{Address}
 use Rattle.frame.specs.declared.header.Header.{Header}
 use Rattle.frame.proofs.Addresses.{address-of-its-bytes}
-use Rattle.frame.proofs.Sums.{summed-sealed, stated-sealed}
+use Rattle.frame.proofs.Sums.{sealed-right}
 
 -- Inverting twice gives a byte back, and a list of bytes.
 pub twice-inverted : (n : ℕ) → n < 256 → inverted (inverted n) ≡ n
@@ -79,7 +79,7 @@ module _ {room place : ℕ} (h : Header) (d : List ℕ) (w : Writable room place
         to-31-bytes = omega (arith, length-frame h d);
         no-extension = rw second (no-ext (h .ack) (length d) (w .to-20-bytes));
         states-its-length = rw (second, length-frame h d) (length-back (h .ack) (length d) (w .to-20-bytes));
-        states-its-sum = summed-sealed (body h d) ∙ sym (stated-sealed (body h d));
+        states-its-sum = sealed-right (body h d);
         has-a-message = λ e. w .has-a-message (sym (twice-inverted (h .message) m) ∙ e);
       }
 

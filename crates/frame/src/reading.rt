@@ -30,7 +30,7 @@ pub fn read(bundle: &[u8]) -> Reading
     if length / 32 % 4 != 0 {
         return Reading::Refused(Refusal::Extended);
     }
-    if wide(length % 32) != count {
+    if (length % 32) as usize != count {
         return Reading::Refused(Refusal::WrongLength);
     }
     let body = count - 2;
@@ -76,12 +76,6 @@ fn header(bundle: &[u8]) -> Header
         source: Address::from_bytes(!bundle[3], !bundle[4], !bundle[5]),
         destination: Address::from_bytes(!bundle[6], !bundle[7], !bundle[8]),
     }
-}
-
-fn wide(byte: u8) -> usize
-    ensures { λ r. ⌜ r ≡ byte ⌝ }
-{
-    byte as usize
 }
 
 // Two bytes as one number, the high byte first.

@@ -1,14 +1,14 @@
 -- Two ways to show that two bundles are not both frames: by the length that each states, and by the sum that each states.
 -- Assumes nothing.
-use Prim.Native.Nat.{ℕ, _+_, _-_, _*_, _%_, _<_}
+use Prim.Native.Nat.{ℕ, _+_, _*_, _%_, _<_}
 use native.Mathlib.Omega.{arith}
 use mathlib.Core.Path.{_≡_, refl, sym, ap, _∙_}
 use mathlib.Core.Logic.{_≢_}
 use mathlib.Core.List.{List, [], _∷_, _++_, append-assoc}
-use lib.ListN.{length, getD, take, length-append}
-use lib.Seq.{take-at, getD-at, getD-append-add}
+use lib.ListN.{length, getD}
 use Rattle.frame.specs.Layout.{inverted, len, sumOf}
 use Rattle.frame.specs.Reading.{IsFrame}
+use Rattle.frame.proofs.Sums.{summed-ending, stated-ending}
 
 -- Two frames of which the second byte is the same are equally long.
 pub by-len : (w p : List ℕ) → length p ≢ length w → (1 < length p → getD p 1 0 ≡ getD w 1 0) → IsFrame w → IsFrame p → ⊥
@@ -19,14 +19,7 @@ by-len w p ne same e d =
 
 -- The stated sum of what ends in two bytes.
 pub states : (p : List ℕ) (h l : ℕ) → IsFrame (p ++ h ∷ l ∷ []) → sumOf p ≡ h * 256 + l
-states p h l e =
-    let b : List ℕ = p ++ h ∷ l ∷ [] in
-    let n : length b ≡ length p + 2 = length-append p (h ∷ l ∷ []) in
-    let s : take (length b - 2) b ≡ p = take-at p (h ∷ l ∷ []) (length b - 2) (omega arith) in
-    let hi : getD b (length b - 2) 0 ≡ h = getD-at p h (l ∷ []) 0 (length b - 2) (omega arith) in
-    let k : length b - 1 ≡ length p + 1 = omega arith in
-    let lo : getD b (length b - 1) 0 ≡ l = rw k (getD-append-add p (h ∷ l ∷ []) 1 0) in
-    sym (ap sumOf s) ∙ e .states-its-sum ∙ omega (arith, hi, lo)
+states p h l e = sym (summed-ending p h l) ∙ e .states-its-sum ∙ stated-ending p h l
 
 -- a list of two or more, with its last two apart
 pub last-two : (t : List ℕ) → 1 < length t → (p : List ℕ) × (h : ℕ) × (l : ℕ) × (t ≡ p ++ h ∷ l ∷ [])

@@ -1,17 +1,17 @@
 -- A run is single steps: one step more, the step that ends it, its end; and what it tells is what they tell.
 -- Assumes nothing.
-use Prim.Native.Nat.{ℕ, suc, _+_, _≤_, _<_}
+use Prim.Native.Nat.{ℕ, zero, suc, _+_, _≤_, _<_}
 use native.Mathlib.Omega.{arith}
 use native.Mathlib.Numerals.{add-one}
-use mathlib.Core.Path.{_≡_, refl}
+use mathlib.Core.Path.{_≡_, refl, _∙_, sym}
 use mathlib.Core.Logic.{_≢_}
 use mathlib.Core.Bool.{Bool, true, false}
-use mathlib.Core.List.{List, [], _∷_, _++_}
+use mathlib.Core.List.{List, [], _∷_, append-nil}
 use borrow.Author.Tests.{ltb-true, ltb-false}
 use lib.Dec.{ltb}
 use lib.ListN.{length, getD, take, drop, drop-of-length-le}
 use lib.Seq.{drop-cons}
-use Rattle.meaning.specs.Choice.{if_then_else_}
+use Rattle.meaning.specs.Choice.{if_then_else_, false-is-not-true}
 use Rattle.frame.specs.Reading.{readingOf}
 use Rattle.frame.specs.declared.reading.Reading.{Reading}
 use Rattle.line.specs.Reader.{stepped, ran, goesOn, answeredBy, endedWith, stepOf, runOf, noBytes}
@@ -55,20 +55,24 @@ module _ (r : Reader) (bytes silences : List ℕ) (i : ℕ) where
 -- What does not end the run tells nothing.
 silent : (a : Answer) (bundle : List ℕ) → goesOn a ≡ true → toldBy a bundle ≡ []
 silent Nothing bundle e = refl
-silent (Frame h n) bundle e = absurd (let z : _≡_ {A = ℕ} 0 1 = cc in omega arith)
-silent (Refused q) bundle e = absurd (let z : _≡_ {A = ℕ} 0 1 = cc in omega arith)
+silent (Frame h n) bundle e = absurd (false-is-not-true e)
+silent (Refused q) bundle e = absurd (false-is-not-true e)
 
--- A run reads k entries, tells what single steps tell of them, and leaves the reader that they leave; it stops early only to tell something.
+-- A run reads some entries, no more than there are: it tells what single steps tell of them, leaves the reader that they leave, and before
+-- the last of them nothing is told; it stops early only to tell something.
 pub record Steps (r : Reader) (bytes silences : List ℕ) (place : ℕ) (x : Ran) : Type 0 where
   pub read : ℕ
   pub to-place : x .place ≡ place + read
-  pub tells : telling r (entries bytes silences) ≡ said (x .stepped) ++ telling (x .stepped .reader) (entries (drop read bytes) (drop read silences))
-  pub leaves : readerAfter r (entries bytes silences) ≡ readerAfter (x .stepped .reader) (entries (drop read bytes) (drop read silences))
-  pub stops : goesOn (x .stepped .answer) ≡ true → length bytes ≤ read
+  pub within : read ≤ length bytes
+  pub tells : telling r (entries (take read bytes) (take read silences)) ≡ said (x .stepped)
+  pub leaves : readerAfter r (entries (take read bytes) (take read silences)) ≡ x .stepped .reader
+  pub not-before : (k : ℕ) → k < read → telling r (entries (take k bytes) (take k silences)) ≡ []
+  pub stops : goesOn (x .stepped .answer) ≡ true → read ≡ length bytes
 
 pub run-is-steps : (r : Reader) (bytes silences : List ℕ) (place : ℕ) → length bytes ≡ length silences → Steps r bytes silences place (runOf r bytes silences place)
 unfolding runOf
-run-is-steps r [] silences place n = record { read = 0; to-place = omega arith; tells = refl; leaves = refl; stops = λ e. omega arith }
+run-is-steps r [] silences place n =
+    record { read = 0; to-place = omega arith; within = omega arith; tells = refl; leaves = refl; not-before = λ k h. absurd (omega arith); stops = λ e. refl }
 run-is-steps r (byte ∷ bytes) [] place n = absurd (omega arith)
 run-is-steps r (byte ∷ bytes) (silence ∷ silences) place n =
     go (goesOn (s .answer)) refl (run-is-steps (s .reader) bytes silences (suc place) (omega arith))
@@ -76,15 +80,36 @@ run-is-steps r (byte ∷ bytes) (silence ∷ silences) place n =
     s : Stepped
     s = stepOf r byte silence
 
+    early : goesOn (s .answer) ≡ true → (j : ℕ) → ((k : ℕ) → k < j → telling (s .reader) (entries (take k bytes) (take k silences)) ≡ [])
+        → (k : ℕ) → k < suc j → telling r (entries (take k (byte ∷ bytes)) (take k (silence ∷ silences))) ≡ []
+    early t j f zero h = refl
+    early t j f (suc k) h = rw (silent (s .answer) (s .bundle) t) (f k (omega arith))
+
+    first : (k : ℕ) → k < 1 → telling r (entries (take k (byte ∷ bytes)) (take k (silence ∷ silences))) ≡ []
+    first zero h = refl
+    first (suc k) h = absurd (omega arith)
+
     go : (t : Bool) → goesOn (s .answer) ≡ t → Steps (s .reader) bytes silences (suc place) (runOf (s .reader) bytes silences (suc place))
         → Steps r (byte ∷ bytes) (silence ∷ silences) place (if t then runOf (s .reader) bytes silences (suc place) else ran s (suc place))
     go true t i =
         let p = i .to-place in
+        let w = i .within in
         record {
           read = suc (i .read);
           to-place = omega arith;
+          within = omega arith;
           tells = rw (silent (s .answer) (s .bundle) t) (i .tells);
           leaves = i .leaves;
+          not-before = early t (i .read) (i .not-before);
           stops = λ e. omega (arith, i .stops e);
         }
-    go false t i = record { read = 1; to-place = omega arith; tells = refl; leaves = refl; stops = λ e. absurd (let z : _≡_ {A = ℕ} 0 1 = cc in omega arith) }
+    go false t i =
+        record {
+          read = 1;
+          to-place = omega arith;
+          within = omega arith;
+          tells = append-nil (said s);
+          leaves = refl;
+          not-before = first;
+          stops = λ e. absurd (false-is-not-true (sym t ∙ e));
+        }

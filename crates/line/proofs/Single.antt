@@ -18,7 +18,7 @@ first-byte x q e = omega (arith, e .has-a-message)
 second-byte : (a x : ℕ) (q : List ℕ) → IsFrame (a ∷ x ∷ q) → 0 < x
 second-byte a x q e = omega (arith, e .no-extension)
 
--- (b) and (c): with and without a byte, not both are frames.
+-- A byte lost or put in: with it and without it, not both are frames.
 pub one-more : (p q : List ℕ) (x : ℕ) → IsFrame (p ++ x ∷ q) → IsFrame (p ++ q) → ⊥
 one-more [] q x e d =
     by-sum (x ∷ []) [] q (omega arith) (let h = first-byte x q e in omega arith) e d
@@ -27,7 +27,7 @@ one-more (a ∷ []) q x e d =
 one-more (a ∷ b ∷ p) q x e d =
     by-len (a ∷ b ∷ p ++ q) (a ∷ b ∷ p ++ x ∷ q) (omega (arith, length-append p q, length-append p (x ∷ q))) (λ _. refl) d e
 
--- (a): with one byte and with another in its place, not both are frames.
+-- A byte changed: with one byte and with another in its place, not both are frames.
 pub other : (p q : List ℕ) (x y : ℕ) → x ≢ y → IsFrame (p ++ x ∷ q) → IsFrame (p ++ y ∷ q) → ⊥
 other p [] x y ne e d =
     let (q, h, s) = last-one p (omega (arith, length-append p (x ∷ []))) in
@@ -40,7 +40,7 @@ other p (k ∷ l ∷ q) x y ne e d =
     (omega (arith, sum-append p (x ∷ []), sum-append p (y ∷ [])))
     (rw append-assoc e) (rw append-assoc d)
 
--- (d) and (e): what a frame begins with, and what it ends with, is no frame.
+-- A silence put in, also in place of a byte: what a frame begins with, and what it ends with, is no frame.
 pub beginning : (p q : List ℕ) → 0 < length q → IsFrame (p ++ q) → IsFrame p → ⊥
 beginning p q g e d =
     by-len (p ++ q) p (omega (arith, length-append p q)) (λ h. sym (List·getD-append p q 0 1 h)) e d

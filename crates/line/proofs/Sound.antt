@@ -11,7 +11,7 @@ use borrow.Author.Tests.{leb-true, leb-false, le-leb, eqb-true, ltb-true}
 use lib.Dec.{leb, ltb, eqb}
 use lib.ListN.{length, drop, set, replicate, length-set}
 use lib.Seq.{drop-cons, drop-set-lt}
-use Rattle.meaning.specs.Choice.{if_then_else_}
+use Rattle.meaning.specs.Choice.{if_then_else_, false-is-not-true}
 use Rattle.line.specs.Telling.{Entry, after, readerAfter}
 use Rattle.line.specs.Reader.{fresh, reader, begun, noBytes, allZeros, isSound, joined, stepped, stepOf}
 use Rattle.line.specs.declared.reader.Reader.{Reader}
@@ -27,7 +27,7 @@ pub record Sound (r : Reader) : Type 0 where
 
 both : (s t : Bool) → (if s then t else false) ≡ true → (s ≡ true) × (t ≡ true)
 both true t e = (refl, e)
-both false t e = absurd (let z : _≡_ {A = ℕ} 0 1 = cc in omega arith)
+both false t e = absurd (false-is-not-true e)
 
 pub sound-facts : (r : Reader) → length (r .kept) ≡ 31 → isSound r ≡ true → Sound r
 sound-facts r n e =

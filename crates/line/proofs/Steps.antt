@@ -1,7 +1,7 @@
 -- Each answer of the reader, from the tests that passed before it and the one that decides.
 -- Assumes nothing.
 use Prim.Native.Nat.{ℕ, _≤_, _<_}
-use mathlib.Core.Path.{_≡_, refl}
+use mathlib.Core.Path.{_≡_, refl, _∙_, sym, ap}
 use mathlib.Core.Logic.{_≢_}
 use mathlib.Core.Bool.{Bool, true, false}
 use borrow.Author.Tests.{eqb-true, eqb-false, ltb-true, ltb-false, le-leb, lt-leb, lt-ltb, le-ltb, eq-eqb, ne-eqb}
@@ -30,6 +30,11 @@ module _ (r next : Reader) where
   pub ended-read : r .count ≢ 0 → r .count ≤ 31 → endedWith r next ≡ answeredBy (readingOf (take (r .count) (r .kept))) (r .kept) next
   unfolding endedWith
   ended-read n h = rw (ne-eqb (r .count) 0 n, le-ltb 31 (r .count) h)
+
+-- The same from what the bundle reads as.
+pub ended-as : (r next : Reader) {q : Reading} → r .count ≢ 0 → r .count ≤ 31 → readingOf (take (r .count) (r .kept)) ≡ q
+    → answeredBy q (r .kept) next ≡ endedWith r next
+ended-as r next n h e = sym (ended-read r next n h ∙ ap (λ (p : Reading). answeredBy p (r .kept) next) e)
 
 -- The reader goes on as the next, and what is told does not depend on it.
 next-of : (q : Reading) (kept : List ℕ) (next : Reader) → answeredBy q kept next .reader ≡ next

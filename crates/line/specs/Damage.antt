@@ -6,6 +6,7 @@ use mathlib.Core.List.{List, [], _∷_, _++_}
 use lib.ListN.{length, getD, take, drop, set}
 use Rattle.frame.specs.Layout.{headerOf}
 use Rattle.frame.specs.Reading.{IsFrame}
+use Rattle.line.specs.Reader.{endingSilence}
 use Rattle.line.specs.Telling.{Entry, after, Told, frame, refused}
 
 -- What can befall a frame, at the byte of index i: it is changed, lost, another is put in before it, a silence is put in before it,
@@ -58,8 +59,8 @@ mutual
     begin : {m s b : ℕ} {p : List ℕ} {ps : List (List ℕ)} {es : List Entry} → m ≤ s → Rest p ps es → Pieces m ((b ∷ p) ∷ ps) (after s b ∷ es)
 
   pub data Rest : List ℕ → List (List ℕ) → List Entry → Type 0 where
-    over : {ps : List (List ℕ)} {es : List Entry} → Pieces 30 ps es → Rest [] ps es
-    within : {s b : ℕ} {p : List ℕ} {ps : List (List ℕ)} {es : List Entry} → s < 30 → Rest p ps es → Rest (b ∷ p) ps (after s b ∷ es)
+    over : {ps : List (List ℕ)} {es : List Entry} → Pieces endingSilence ps es → Rest [] ps es
+    within : {s b : ℕ} {p : List ℕ} {ps : List (List ℕ)} {es : List Entry} → s < endingSilence → Rest p ps es → Rest (b ∷ p) ps (after s b ∷ es)
 
 -- A recording of these frames: the silences between frames stay, and the one before the first byte of all is any.
 abbrev pub Recording : List Sent → List Entry → Type 0

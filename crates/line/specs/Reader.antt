@@ -18,6 +18,10 @@ use Rattle.line.specs.declared.reader.Ran.{Ran}
 abbrev pub reader : List ℕ → ℕ → Reader
 reader kept count = record { kept = kept; count = count }
 
+-- A silence of 30 tenths of a millisecond or more ends the bundle before it.
+abbrev pub endingSilence : ℕ
+endingSilence = 30
+
 -- No byte, in a value of 31.
 abbrev pub noBytes : List ℕ
 noBytes = replicate 31 0
@@ -71,7 +75,7 @@ broken r = stepped r (Refused Refusal.BrokenReader) noBytes
 unfoldable pub stepOf : Reader → (byte silence : ℕ) → Stepped
 stepOf r byte silence =
     if not (isSound r) then broken r else
-    if leb 30 silence then endedWith r (begun byte) else
+    if leb endingSilence silence then endedWith r (begun byte) else
     stepped (joined r byte) Nothing noBytes
 
 -- The end of the recording ends an open bundle.

@@ -7,7 +7,7 @@ ghost use mathlib.Core.Path.{_≡_};
 ghost use mathlib.Core.Bool.{true};
 ghost use Prim.Native.Nat.{_≤_};
 ghost use lib.ListN.{length, drop};
-ghost use Rattle.line.specs.Reader.{fresh, begun, isSound, keptAfter, countAfter, endedWith, stepOf, closeOf, refusing, runOf, ranOf};
+ghost use Rattle.line.specs.Reader.{stepped, noBytes, fresh, begun, isSound, keptAfter, countAfter, endedWith, stepOf, closeOf, refusing, runOf, ranOf};
 
 pub struct Reader {
     // The bundle's first bytes, at most 31, then zeros.
@@ -57,11 +57,7 @@ impl Reader {
         ensures { λ r. ⌜ r ≡ stepOf self byte silence ⌝ }
     {
         if !self.is_sound() {
-            return Stepped {
-                reader: self,
-                answer: Answer::Refused(Refusal::BrokenReader),
-                bundle: [0; 31],
-            };
+            return self.answering(Answer::Refused(Refusal::BrokenReader));
         }
         if silence >= ENDING {
             return self.ended(Reader::begun(byte));
@@ -69,11 +65,7 @@ impl Reader {
         let mut kept = self.kept;
         let count = lay_in(&mut kept, self.count, byte);
         let reader = Reader { kept, count };
-        Stepped {
-            reader,
-            answer: Answer::Nothing,
-            bundle: [0; 31],
-        }
+        reader.answering(Answer::Nothing)
     }
 
     // The end of the recording.
@@ -81,11 +73,7 @@ impl Reader {
         ensures { λ r. ⌜ r ≡ closeOf self ⌝ }
     {
         if !self.is_sound() {
-            return Stepped {
-                reader: self,
-                answer: Answer::Refused(Refusal::BrokenReader),
-                bundle: [0; 31],
-            };
+            return self.answering(Answer::Refused(Refusal::BrokenReader));
         }
         self.ended(Reader::fresh())
     }
@@ -110,11 +98,7 @@ impl Reader {
     fn refusing(self, refusal: Refusal, place: usize) -> Ran
         ensures { λ r. ⌜ r ≡ refusing self refusal place ⌝ }
     {
-        let stepped = Stepped {
-            reader: self,
-            answer: Answer::Refused(refusal),
-            bundle: [0; 31],
-        };
+        let stepped = self.answering(Answer::Refused(refusal));
         Ran { stepped, place }
     }
 
@@ -142,11 +126,7 @@ impl Reader {
             i += 1;
         }
         let reader = Reader { kept, count };
-        let stepped = Stepped {
-            reader,
-            answer: Answer::Nothing,
-            bundle: [0; 31],
-        };
+        let stepped = reader.answering(Answer::Nothing);
         Ran { stepped, place: i }
     }
 
@@ -157,18 +137,10 @@ impl Reader {
         let kept = self.kept;
         let count = self.count;
         if count == 0 {
-            return Stepped {
-                reader: next,
-                answer: Answer::Nothing,
-                bundle: [0; 31],
-            };
+            return next.answering(Answer::Nothing);
         }
         if count > 31 {
-            return Stepped {
-                reader: next,
-                answer: Answer::Refused(Refusal::TooLong),
-                bundle: [0; 31],
-            };
+            return next.answering(Answer::Refused(Refusal::TooLong));
         }
         let reading = read(&kept[..count]);
         match reading {
@@ -177,11 +149,18 @@ impl Reader {
                 answer: Answer::Frame(header, content),
                 bundle: kept,
             },
-            Reading::Refused(reason) => Stepped {
-                reader: next,
-                answer: Answer::Refused(reason),
-                bundle: [0; 31],
-            },
+            Reading::Refused(reason) => next.answering(Answer::Refused(reason)),
+        }
+    }
+
+    // An answer that is no frame has no bytes beside it.
+    fn answering(self, answer: Answer) -> Stepped
+        ensures { λ r. ⌜ r ≡ stepped self answer noBytes ⌝ }
+    {
+        Stepped {
+            reader: self,
+            answer,
+            bundle: [0; 31],
         }
     }
 
@@ -198,14 +177,13 @@ impl Reader {
     fn is_sound(self) -> bool
         ensures { λ r. ⌜ r ≡ isSound self ⌝ }
     {
-        let kept = self.kept;
         let count = self.count;
         if count > 32 {
             return false;
         }
         let mut i = count;
         while i < 31 {
-            if kept[i] != 0 {
+            if self.kept[i] != 0 {
                 return false;
             }
             i += 1;

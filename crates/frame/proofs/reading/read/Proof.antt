@@ -20,11 +20,11 @@ shared-slice-read-length c = search needs
 returns-3 : tie.Need-returns-3
 returns-3 c = sym (row-3 (c .before .before .before .before .before .args .bundle .now) (omega arith) (omega arith) (omega arith))
 
-wide-requires : tie.Need-wide-requires
-wide-requires c κs = search needs
+cast-if4 : tie.Need-cast-if4
+cast-if4 c = search needs
 
 returns-4 : tie.Need-returns-4
-returns-4 c = sym (row-4 (c .before .before .before .before .before .before .before .args .bundle .now) (omega arith) (omega arith) (omega arith) (omega arith))
+returns-4 c = sym (row-4 (c .before .before .before .before .before .before .args .bundle .now) (omega arith) (omega arith) (omega arith) (omega arith))
 
 sub-body : tie.Need-sub-body
 sub-body c = search needs
@@ -48,13 +48,13 @@ pair-requires : tie.Need-pair-requires
 pair-requires c κs = search needs
 
 returns-5 : tie.Need-returns-5
-returns-5 c = sym (row-5 (c .before .before .before .before .before .before .before .before .before .before .before .before .before .args .bundle .now) (omega arith) (omega arith) (omega arith) (omega arith) (omega arith))
+returns-5 c = sym (row-5 (c .before .before .before .before .before .before .before .before .before .before .before .before .args .bundle .now) (omega arith) (omega arith) (omega arith) (omega arith) (omega arith))
 
 shared-slice-read-if6 : tie.Need-shared-slice-read-if6
 shared-slice-read-if6 c = search needs
 
 returns-6 : tie.Need-returns-6
-returns-6 c = sym (row-6 (c .before .before .before .before .before .before .before .before .before .before .before .before .before .before .before .args .bundle .now) (omega arith) (omega arith) (omega arith) (omega arith) (omega arith) (omega arith))
+returns-6 c = sym (row-6 (c .before .before .before .before .before .before .before .before .before .before .before .before .before .before .args .bundle .now) (omega arith) (omega arith) (omega arith) (omega arith) (omega arith) (omega arith))
 
 header-requires : tie.Need-header-requires
 header-requires c κs = search needs
@@ -63,7 +63,7 @@ sub-t12 : tie.Need-sub-t12
 sub-t12 c = search needs
 
 returns-7 : tie.Need-returns-7
-returns-7 c = rw (c .header .ensures) (sym (no-row (c .before .before .before .before .before .before .before .before .before .before .before .before .before .before .before .before .args .bundle .now) (omega arith) (omega arith) (omega arith) (omega arith) (omega arith) (omega arith)))
+returns-7 c = rw (c .header .ensures) (sym (no-row (c .before .before .before .before .before .before .before .before .before .before .before .before .before .before .before .args .bundle .now) (omega arith) (omega arith) (omega arith) (omega arith) (omega arith) (omega arith)))
 
 pub read-spec : {M : Type 1} → statement M
 read-spec =
@@ -73,7 +73,7 @@ read-spec =
     returns-2
     shared-slice-read-length
     returns-3
-    wide-requires
+    cast-if4
     returns-4
     sub-body
     slice-aggregate-sum

@@ -7,7 +7,7 @@ use mathlib.Core.Path.{_≡_, refl, _∙_, sym, ap, ap₂}
 use mathlib.Core.Logic.{inl, inr, ⊎-elim}
 use mathlib.Core.Bool.{false}
 use lib.ListN.{length, getD, drop, length-map}
-use Rattle.line.specs.Reader.{reader, joined, stepped, goesOn, endedWith, stepOf, runOf, noBytes}
+use Rattle.line.specs.Reader.{reader, ran, joined, stepped, goesOn, endedWith, stepOf, runOf, noBytes}
 use Rattle.line.specs.declared.reader.Reader.{Reader}
 use Rattle.line.specs.declared.reader.Stepped.{Stepped}
 use Rattle.line.specs.declared.reader.Answer.the-variants.{Nothing}
@@ -89,11 +89,16 @@ loop-again c =
       rw next (sym (one-more r (x .bytes .now) (x .silences .now) (l .loop .i) (joined r byte) (omega arith) (omega arith) goes) ∙ l .loop .inv .2),
     )
 
+answering-requires : tie.Need-answering-requires Inv-loop μ-loop
+answering-requires c κs = search needs
+
 returns-2 : tie.Need-returns-2 Inv-loop μ-loop
 returns-2 c =
-    let l = c .before in
+    let l = c .before .before in
     let x = l .before .before .before .before .args in
-    sym (at-end (reader (l .loop .kept) (l .loop .count)) (x .bytes .now) (x .silences .now) (l .loop .i) (omega arith)) ∙ l .loop .inv .2
+    ap (λ (s : Stepped). ran s (l .loop .i)) (c .answering .ensures)
+    ∙ sym (at-end (reader (l .loop .kept) (l .loop .count)) (x .bytes .now) (x .silences .now) (l .loop .i) (omega arith))
+    ∙ l .loop .inv .2
 
 pub go-on-spec : {M : Type 1} → statement M
 go-on-spec =
@@ -113,4 +118,5 @@ go-on-spec =
     add-i
     loop-less
     loop-again
+    answering-requires
     returns-2)

@@ -16,10 +16,14 @@ use Rattle.line.proofs.reader.Reader.step.Tie as tie
 is-sound-requires : tie.Need-is-sound-requires
 is-sound-requires c κs = search needs
 
+answering-requires : tie.Need-answering-requires
+answering-requires c κs = search needs
+
 returns : tie.Need-returns
 returns c =
-    let x = c .before .before .args in
-    sym (step-broken (x .self) (x .byte) (x .silence) (sym (c .before .is-sound .ensures) ∙ not-true _ (c .if1 .taken)))
+    let t = c .before in
+    let x = t .before .before .args in
+    c .answering .ensures ∙ sym (step-broken (x .self) (x .byte) (x .silence) (sym (t .before .is-sound .ensures) ∙ not-true _ (t .if1 .taken)))
 
 begun-requires : tie.Need-begun-requires
 begun-requires c κs = search needs
@@ -38,11 +42,16 @@ returns-2 c =
 lay-in-requires : tie.Need-lay-in-requires
 lay-in-requires c κs = search needs
 
+answering-requires-2 : tie.Need-answering-requires-2
+answering-requires-2 c κs = search needs
+
 returns-3 : tie.Need-returns-3
 returns-3 c =
-    let t = c .before .before .before .before in
+    let l = c .before in
+    let t = l .before .before .before .before in
     let x = t .before .before .args in
-    ap₂ (λ (k : List ℕ) (n : ℕ). stepped (reader k n) Nothing noBytes) (c .lay-in .ensures .1) (c .lay-in .ensures .0)
+    c .answering2 .ensures
+    ∙ ap₂ (λ (k : List ℕ) (n : ℕ). stepped (reader k n) Nothing noBytes) (l .lay-in .ensures .1) (l .lay-in .ensures .0)
     ∙ sym (step-joins (x .self) (x .byte) (x .silence) (sym (t .before .is-sound .ensures) ∙ not-false _ (t .if1 .left)) (omega arith))
 
 pub step-spec : {M : Type 1} → statement M
@@ -50,9 +59,11 @@ step-spec =
     tie.close
     (tie.spec
     is-sound-requires
+    answering-requires
     returns
     begun-requires
     ended-requires
     returns-2
     lay-in-requires
+    answering-requires-2
     returns-3)
