@@ -1,4 +1,5 @@
 pub mod Choice
+pub mod Chosen
 pub mod Bytes
 pub mod Lists
 pub mod Determined

@@ -1,0 +1,95 @@
+-- What the slots from here on say is what all of them say.
+-- Assumes nothing.
+use borrow.Author.Needs.{needs}
+use borrow.Author.Tests.{not-true, not-false}
+use mathlib.Core.Path.{_≡_, refl, _∙_, sym}
+use mathlib.Core.Bool.{true, false}
+use mathlib.Core.List.{List}
+use Prim.Native.Nat.{ℕ, _≤_, _<_, _-_, _+_}
+use native.Mathlib.Omega.{arith}
+use native.Mathlib.Numerals.{add-one}
+use lib.ListN.{length, getD, drop, length-map, drop-of-length-le}
+use lib.Seq.{drop-cons}
+use Rattle.travel.specs.declared.Pulse.{Pulse}
+use Rattle.board.specs.declared.favourites.Ip.the-variants.{Unset}
+use Rattle.board.specs.declared.favourites.Slot.{Slot}
+use Rattle.board.specs.Favourites.{slot, ipWithin, ipsWithin}
+use Rattle.board.proofs.favourites.Favourites.within.Statement.{statement}
+use Rattle.board.proofs.favourites.Favourites.within.Tie as tie
+
+module _ (travel : Pulse) (l : List Slot) (i : ℕ) where
+  beyond : i < length l → ipWithin travel (getD l i (slot Unset) .ip) ≡ false → ipsWithin travel (drop i l) ≡ false
+  unfolding ipsWithin
+  beyond h e = rw (drop-cons l i (slot Unset), e)
+
+  passed : i < length l → ipWithin travel (getD l i (slot Unset) .ip) ≡ true → ipsWithin travel (drop i l) ≡ ipsWithin travel (drop (i + 1) l)
+  unfolding ipsWithin
+  passed h e = rw (drop-cons l i (slot Unset), e, add-one)
+
+  all-passed : length l ≤ i → ipsWithin travel (drop i l) ≡ true
+  unfolding ipsWithin
+  all-passed h = rw drop-of-length-le
+
+abbrev Inv-loop : tie.InvT-loop
+Inv-loop travel self place₀ place = (place ≤ 16) × (ipsWithin travel (drop place (self .slots)) ≡ ipsWithin travel (self .slots))
+
+abbrev μ-loop : tie.MeasureT-loop
+μ-loop travel self place₀ place = 16 - place
+
+sixteen : (c : tie.Start Inv-loop μ-loop) → length (c .args .t1 .slots) ≡ 16
+sixteen c = simp length-map at (c .good .0 .1 .1 .0 .1 .0 .1)
+
+loop-holds : tie.Need-loop-holds Inv-loop μ-loop
+loop-holds c = (omega arith, refl)
+
+mul-slot : tie.Need-mul-slot Inv-loop μ-loop
+mul-slot c = search needs
+
+element-copy-out-slot : tie.Need-element-copy-out-slot Inv-loop μ-loop
+element-copy-out-slot c = search needs
+
+ip-within-requires : tie.Need-ip-within-requires Inv-loop μ-loop
+ip-within-requires c κs = search needs
+
+returns : tie.Need-returns Inv-loop μ-loop
+returns c =
+    let s = c .before .before .before .before in
+    let n = sixteen (s .before) in
+    let x = s .before .args in
+    sym (beyond (x .travel) (x .t1 .slots) (s .loop .place) (omega arith) (sym (c .before .ip-within .ensures) ∙ not-true (c .before .ip-within .result) (c .if1 .taken))) ∙ s .loop .inv .1
+
+add-place : tie.Need-add-place Inv-loop μ-loop
+add-place c = search needs
+
+loop-less : tie.Need-loop-less Inv-loop μ-loop
+loop-less c = search needs
+
+loop-again : tie.Need-loop-again Inv-loop μ-loop
+loop-again c =
+    let s = c .before .before .before .before in
+    let n = sixteen (s .before) in
+    let x = s .before .args in
+    (search needs, sym (passed (x .travel) (x .t1 .slots) (s .loop .place) (omega arith) (sym (c .before .ip-within .ensures) ∙ not-false (c .before .ip-within .result) (c .if1 .left))) ∙ s .loop .inv .1)
+
+returns-2 : tie.Need-returns-2 Inv-loop μ-loop
+returns-2 c =
+    let s = c .before in
+    let n = sixteen (s .before) in
+    let x = s .before .args in
+    sym (all-passed (x .travel) (x .t1 .slots) (s .loop .place) (omega arith)) ∙ s .loop .inv .1
+
+pub within-spec : {M : Type 1} → statement M
+within-spec =
+    tie.close
+    (tie.spec
+    Inv-loop
+    μ-loop
+    loop-holds
+    mul-slot
+    element-copy-out-slot
+    ip-within-requires
+    returns
+    add-place
+    loop-less
+    loop-again
+    returns-2)

@@ -1,0 +1,35 @@
+// What the fitter sets up.
+use frame::Address;
+use travel::Pulse;
+ghost use mathlib.Core.Path.{_≡_};
+ghost use Rattle.board.specs.Settings.{inRange};
+
+pub struct Settings {
+    // The NodeID.
+    pub id: Address,
+    // The node type.
+    pub kind: u8,
+    // The pulse of the down limit.
+    pub travel: Pulse,
+}
+
+impl Settings {
+    // Row 32's ranges.
+    pub fn in_range(self) -> bool
+        ensures { λ r. ⌜ r ≡ inRange self ⌝ }
+    {
+        if self.id.0 < 1 {
+            return false;
+        }
+        if self.id.0 > 0xFF_FEFF {
+            return false;
+        }
+        if self.kind < 1 {
+            return false;
+        }
+        if self.kind > 15 {
+            return false;
+        }
+        self.travel.0 >= 100
+    }
+}

@@ -1,0 +1,93 @@
+// The whole state of the board.
+use crate::drive::Drive;
+use crate::favourites::Favourites;
+use crate::lock::Lock;
+use crate::settings::Settings;
+ghost use mathlib.Core.Path.{_≡_};
+ghost use Rattle.board.specs.Node.{fresh, sound, withDrive, withFavourites, withLock, statusOf};
+
+// The fields are open, so that a state can be anything: every call checks it, by row 33.
+pub struct Node {
+    pub settings: Settings,
+    pub drive: Drive,
+    pub favourites: Favourites,
+    pub lock: Lock,
+}
+
+impl Node {
+    // Pulse 0, unlocked, all else empty, as after power-up.
+    pub fn fresh(settings: Settings) -> Node
+        ensures { λ r. ⌜ r ≡ fresh settings ⌝ }
+    {
+        let drive = Drive::fresh();
+        let favourites = Favourites::none();
+        let lock = Lock::none();
+        Node {
+            settings,
+            drive,
+            favourites,
+            lock,
+        }
+    }
+
+    // What row 33 asks of a state.
+    pub fn is_sound(self) -> bool
+        ensures { λ r. ⌜ r ≡ sound self ⌝ }
+    {
+        let settings = self.settings;
+        let drive = self.drive;
+        let favourites = self.favourites;
+        let lock = self.lock;
+        let travel = settings.travel;
+        if !settings.in_range() {
+            return false;
+        }
+        if !drive.within(travel) {
+            return false;
+        }
+        if !favourites.within(travel) {
+            return false;
+        }
+        lock.holder.0 <= 0xFF_FFFF
+    }
+
+    pub fn status(self) -> u8
+        ensures { λ r. ⌜ r ≡ statusOf self ⌝ }
+    {
+        if self.lock.locked {
+            return 3;
+        }
+        if self.drive.blocked {
+            return 2;
+        }
+        let drive = self.drive;
+        if drive.is_running() {
+            return 1;
+        }
+        0
+    }
+
+    pub fn with_drive(self, drive: Drive) -> Node
+        ensures { λ r. ⌜ r ≡ withDrive self drive ⌝ }
+    {
+        let mut node = self;
+        node.drive = drive;
+        node
+    }
+
+    pub fn with_favourites(self, favourites: Favourites) -> Node
+        ensures { λ r. ⌜ r ≡ withFavourites self favourites ⌝ }
+    {
+        let mut node = self;
+        node.favourites = favourites;
+        node
+    }
+
+    pub fn with_lock(self, lock: Lock) -> Node
+        ensures { λ r. ⌜ r ≡ withLock self lock ⌝ }
+    {
+        let mut node = self;
+        node.lock = lock;
+        node
+    }
+}

@@ -1,0 +1,5 @@
+pub mod Fields
+pub mod Motor
+pub mod Ips
+pub mod Locking
+pub mod Table

@@ -1,0 +1,7 @@
+pub mod Addressing
+pub mod Turns
+pub mod Bundles
+pub mod Passing
+pub mod Laws
+pub mod Figures
+pub mod Determined

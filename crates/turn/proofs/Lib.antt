@@ -1,0 +1,5 @@
+pub mod Answers
+pub mod Replied
+pub mod Outcomes
+pub mod Answered
+pub mod Determined
