@@ -1,0 +1,9 @@
+pub mod Steps
+pub mod Laying
+pub mod Filling
+pub mod FormRows
+pub mod ReadBack
+pub mod WrittenBack
+pub mod FormLaws
+pub mod Figures
+pub mod Determined

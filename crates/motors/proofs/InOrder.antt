@@ -1,0 +1,102 @@
+-- A sound register is its records, right and in order, and zeros behind them; and whatever is so is sound.
+-- Assumes nothing.
+use Prim.Native.Nat.{ℕ, zero, suc, _-_, _≤_}
+use native.Mathlib.Omega.{arith}
+use mathlib.Core.Path.{_≡_, refl, _∙_, sym, ap}
+use mathlib.Core.Bool.{true}
+use mathlib.Core.List.{List, [], _∷_, _++_}
+use lib.Dec.{eqb, leb, ltb}
+use lib.ListN.{length, take, drop, replicate, length-append, length-replicate, length-take, take-append-drop}
+use borrow.Author.Tests.{eqb-true, leb-true, lt-ltb, le-leb, eq-eqb}
+use Rattle.motors.specs.Motor.{zeros, earlierOf, rightOf, blankOf, followsOf, unreadPart}
+use Rattle.motors.specs.Register.{filled, soundFrom, soundOf}
+use Rattle.motors.specs.declared.motor.Motor.{Motor}
+use Rattle.motors.proofs.Cases.{both}
+use Rattle.motors.proofs.Order.{blank-is-zeros}
+
+-- Records that are right and strictly ascending behind `previous`.
+abbrev pub InOrder : Motor → List Motor → Type 0
+InOrder previous [] = Unit {0}
+InOrder previous (m ∷ l) = (rightOf m ≡ true) × (earlierOf previous m ≡ true) × InOrder m l
+
+-- Row 19 as facts.
+pub record Sound (run : List Motor) (count : ℕ) : Type 0 where
+  pub of-256-places : length run ≡ 256
+  pub at-most-256 : count ≤ 256
+  pub in-order : InOrder zeros (take count run)
+  pub zeros-behind : run ≡ filled (take count run)
+
+follows-is : (p m : Motor) → followsOf p m ≡ true → (rightOf m ≡ true) × (earlierOf p m ≡ true)
+unfolding followsOf
+follows-is p m e = both (rightOf m) (earlierOf p m) e
+
+follows-so : (p m : Motor) → rightOf m ≡ true → earlierOf p m ≡ true → followsOf p m ≡ true
+unfolding followsOf
+follows-so p m r e = rw (r, e)
+
+zeros-blank : blankOf zeros ≡ true
+unfolding blankOf unreadPart
+zeros-blank = refl
+
+-- What the check from a place on says.
+told : (p : Motor) (count : ℕ) (l : List Motor) → soundFrom p count l ≡ true
+    → InOrder p (take count l) × (drop count l ≡ replicate (length l - count) zeros)
+unfolding soundFrom
+told p zero [] e = (tt, refl)
+told p (suc count) [] e =
+    let n : 0 - suc count ≡ 0 = omega arith in
+    (tt, rw n)
+told p zero (m ∷ l) e =
+    let s = both (blankOf m) (soundFrom m 0 l) e in
+    let behind = told m zero l (s .1) .1 in
+    let n : suc (length l) - 0 ≡ suc (length l - 0) = omega arith in
+    (tt, rw (n, blank-is-zeros m (s .0)) (ap (λ (r : List Motor). zeros ∷ r) behind))
+told p (suc count) (m ∷ l) e =
+    let held : ltb 0 (suc count) ≡ true = lt-ltb 0 (suc count) (omega arith) in
+    let less : suc count - 1 ≡ count = omega arith in
+    let s = both (followsOf p m) (soundFrom m count l) (rw (held, less) at e) in
+    let f = follows-is p m (s .0) in
+    let on = told m count l (s .1) in
+    let n : suc (length l) - suc count ≡ length l - count = omega arith in
+    ((f .0, f .1, on .0), rw n (on .1))
+
+blank-on : (p : Motor) (k : ℕ) → soundFrom p 0 (replicate k zeros) ≡ true
+unfolding soundFrom
+blank-on p zero = refl
+blank-on p (suc k) = rw zeros-blank (blank-on zeros k)
+
+so-told : (p : Motor) (l : List Motor) (k : ℕ) → InOrder p l → soundFrom p (length l) (l ++ replicate k zeros) ≡ true
+unfolding soundFrom
+so-told p [] k o = blank-on p k
+so-told p (m ∷ l) k o =
+    let held : ltb 0 (suc (length l)) ≡ true = lt-ltb 0 (suc (length l)) (omega arith) in
+    let less : suc (length l) - 1 ≡ length l = omega arith in
+    rw (held, less, follows-so p m (o .0) (o .1)) (so-told m l k (o .2))
+
+pub length-filled : (l : List Motor) → length l ≤ 256 → length (filled l) ≡ 256
+unfolding filled
+length-filled l h = rw (length-append, length-replicate) (omega arith)
+
+pub sound-is : (run : List Motor) (count : ℕ) → soundOf run count ≡ true → Sound run count
+unfolding soundOf filled
+sound-is run count e =
+    let s = both (eqb (length run) 256) _ e in
+    let t = both (leb count 256) (soundFrom zeros count run) (s .1) in
+    let full = eqb-true (length run) 256 (s .0) in
+    let few = leb-true count 256 (t .0) in
+    let on = told zeros count run (t .1) in
+    let n : length (take count run) ≡ count = simp length-take (omega arith) in
+    record {
+      of-256-places = full;
+      at-most-256 = few;
+      in-order = on .0;
+      zeros-behind = sym (take-append-drop count run) ∙ ap (λ (r : List Motor). take count run ++ r) (on .1 ∙ rw (full, n));
+    }
+
+told-filled : (l : List Motor) → InOrder zeros l → soundFrom zeros (length l) (filled l) ≡ true
+unfolding filled
+told-filled l o = so-told zeros l (256 - length l) o
+
+pub is-sound : (l : List Motor) → length l ≤ 256 → InOrder zeros l → soundOf (filled l) (length l) ≡ true
+unfolding soundOf
+is-sound l h o = rw (eq-eqb _ _ (length-filled l h), le-leb _ _ h) (told-filled l o)

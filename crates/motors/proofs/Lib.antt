@@ -1,0 +1,14 @@
+pub mod ReportRows
+pub mod Edits
+pub mod Walks
+pub mod Cases
+pub mod Order
+pub mod InOrder
+pub mod Held
+pub mod AtPlaces
+pub mod FilingRows
+pub mod Shown
+pub mod Register
+pub mod FilingLaws
+pub mod StrikingLaws
+pub mod Determined

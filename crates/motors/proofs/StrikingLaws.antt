@@ -1,0 +1,119 @@
+-- What is promised of striking a motor out.
+-- Assumes nothing.
+use Prim.Native.Nat.{ℕ, suc, _≤_, _<_}
+use native.Mathlib.Omega.{arith}
+use mathlib.Core.Path.{_≡_, refl, _∙_, ap, ap₂, subst}
+use mathlib.Core.Logic.{_≢_}
+use mathlib.Core.Bool.{true, not}
+use mathlib.Core.List.{List}
+use mathlib.Core.Option.{none}
+use lib.ListN.{length}
+use borrow.Author.Tests.{not-false, le-leb}
+use Rattle.meaning.specs.Choice.{either}
+use Rattle.refusal.specs.declared.Refusal.{Refusal}
+use Rattle.motors.specs.Motor.{zeros, isLine}
+use Rattle.motors.specs.Register.{held, filled, soundOf, foundIn, found}
+use Rattle.motors.specs.Report.{reportOf}
+use Rattle.motors.specs.Filing.{without, isSome, struckOf, filedOf, enteredOf, entered}
+use Rattle.motors.specs.declared.answer.Answer.{Answer}
+use Rattle.motors.specs.declared.answer.Answer.the-variants.{Count, Refused}
+use Rattle.motors.specs.declared.answer.Next.{Next}
+use Rattle.motors.specs.declared.motor.Motor.{Motor}
+use Rattle.motors.specs.declared.report.Report.the-variants as report
+use Rattle.motors.proofs.InOrder.{sound-is, is-sound}
+use Rattle.motors.proofs.Held.{struck-another, struck-itself, struck-in-order, struck-number, entered-at-most-one-more}
+use Rattle.motors.proofs.Register.{length-held}
+use Rattle.motors.proofs.FilingRows.{as-reported}
+use Rattle.motors.proofs.FilingLaws.{held-again, countAfter}
+
+module _ (run : List Motor) (count line node : ℕ) where
+  -- A motor that is struck out: the register was sound and held it.
+  record Gone (motors : List Motor) (n : ℕ) : Type 0 where
+    ok : soundOf run count ≡ true
+    was-held : isSome (found run count line node) ≡ true
+    places : motors ≡ filled (without (held run count) line node)
+    number : n ≡ length (without (held run count) line node)
+
+  abbrev Struck : Next → Answer → Type 0
+  Struck x (Count n) = Gone (x .motors) n
+  Struck x (Refused r) = x .motors ≡ run
+
+  abbrev As : Next → Type 0
+  As x = Struck x (x .answer)
+
+  struck-as : As (struckOf run count line node)
+  unfolding struckOf
+  struck-as =
+      either As (not (soundOf run count)) (λ t. refl) λ s.
+      either As (not (isLine line)) (λ t. refl) λ l.
+      either As (not (isSome (found run count line node))) (λ t. refl) λ h.
+      record { ok = not-false _ s; was-held = not-false _ h; places = refl; number = refl }
+
+  abbrev after : Next
+  after = struckOf run count line node
+
+  -- ---- demand 1
+  pub a-refused-striking-changes-no-record : (r : Refusal) → after .answer ≡ Refused r → after .motors ≡ run
+  a-refused-striking-changes-no-record r e = subst (Struck after) e struck-as
+
+  module _ (n : ℕ) (accepted : after .answer ≡ Count n) where
+    done : Gone (after .motors) n
+    done = subst (Struck after) accepted struck-as
+
+    records : held (after .motors) n ≡ without (held run count) line node
+    records = ap₂ held (done .places) (done .number) ∙ held-again (without (held run count) line node)
+
+    pub the-motor-struck-out-is-gone : found (after .motors) n line node ≡ none
+    the-motor-struck-out-is-gone =
+        ap (λ (l : List Motor). foundIn l line node) records
+        ∙ struck-itself line node zeros (held run count) (sound-is run count (done .ok) .in-order)
+
+    pub every-other-motor-stays : (line′ node′ : ℕ) → (line ≡ line′ → node ≡ node′ → ⊥)
+        → found (after .motors) n line′ node′ ≡ found run count line′ node′
+    every-other-motor-stays line′ node′ other =
+        ap (λ (l : List Motor). foundIn l line′ node′) records ∙ struck-another line node (held run count) line′ node′ other
+
+    pub the-same-number-on-another-line-stays : (line′ : ℕ) → line ≢ line′ → found (after .motors) n line′ node ≡ found run count line′ node
+    the-same-number-on-another-line-stays line′ other = every-other-motor-stays line′ node (λ l k. other l)
+
+    -- ---- the place is given back
+    pub one-place-is-given-back : suc n ≡ count
+    one-place-is-given-back =
+        ap suc (done .number) ∙ struck-number line node (held run count) (done .was-held) ∙ length-held run count (done .ok)
+
+    pub the-register-stays-sound : soundOf (after .motors) n ≡ true
+    the-register-stays-sound =
+        let l = without (held run count) line node in
+        let few : length l ≤ 256 = omega (arith, one-place-is-given-back, done .number, sound-is run count (done .ok) .at-most-256) in
+        ap₂ soundOf (done .places) (done .number) ∙ is-sound l few (struck-in-order line node zeros (held run count) (sound-is run count (done .ok) .in-order))
+
+  still-sound : (x : Answer) → after .answer ≡ x → soundOf run count ≡ true → soundOf (after .motors) (countAfter count x) ≡ true
+  still-sound (Count n) e ok = the-register-stays-sound n e
+  still-sound (Refused r) e ok = ap (λ (l : List Motor). soundOf l count) (a-refused-striking-changes-no-record r e) ∙ ok
+
+  pub a-sound-register-stays-sound : soundOf run count ≡ true → soundOf (after .motors) (countAfter count (after .answer)) ≡ true
+  a-sound-register-stays-sound ok = still-sound (after .answer) refl ok
+
+-- With room for one more, whatever a frame reports is entered.
+module _ (run : List Motor) (count line : ℕ) (b : List ℕ) (ok : soundOf run count ≡ true) (room : count < 256) where
+  with-room : (m : Motor) → enteredOf run count m .answer ≡ Count (length (entered (held run count) m))
+  unfolding enteredOf
+  with-room m =
+      rw (le-leb (length (entered (held run count) m)) 256
+      (omega (arith, entered-at-most-one-more (held run count) m .1, length-held run count ok)))
+
+  pub a-motor-reported-gets-a-place : (m : Motor) → reportOf line b ≡ report.Seen m
+      → filedOf run count line b .answer ≡ Count (length (entered (held run count) m))
+  a-motor-reported-gets-a-place m e = ap (λ (x : Next). x .answer) (as-reported run count line b (report.Seen m) ok e) ∙ with-room m
+
+-- The place given back serves whatever motor is reported next, even where 256 were held.
+pub a-later-enrolment-may-use-the-place : (run : List Motor) (count line node n : ℕ) → struckOf run count line node .answer ≡ Count n
+    → (line′ : ℕ) (b : List ℕ) (m : Motor) → reportOf line′ b ≡ report.Seen m
+    → filedOf (struckOf run count line node .motors) n line′ b .answer ≡ Count (length (entered (held (struckOf run count line node .motors) n) m))
+a-later-enrolment-may-use-the-place run count line node n e line′ b m r =
+    let sound = the-register-stays-sound run count line node n e in
+    a-motor-reported-gets-a-place (struckOf run count line node .motors) n line′ b sound
+    (omega (arith, one-place-is-given-back run count line node n e, few-before run count line node n e)) m r
+  where
+    few-before : (run : List Motor) (count line node n : ℕ) → struckOf run count line node .answer ≡ Count n → count ≤ 256
+    few-before run count line node n e = sound-is run count (done run count line node n e .ok) .at-most-256

@@ -1,0 +1,17 @@
+-- Each return is its bound.
+-- Assumes nothing.
+use borrow.Author.Tests.{le-ltb, lt-ltb}
+use Rattle.motors.specs.Motor.{isNode}
+use Rattle.motors.proofs.motor.is_node.Statement.{statement}
+use Rattle.motors.proofs.motor.is_node.Tie as tie
+
+returns : tie.Need-returns
+unfolding isNode
+returns c = rw (lt-ltb _ _ (c .if1 .taken))
+
+returns-2 : tie.Need-returns-2
+unfolding isNode
+returns-2 c = rw (le-ltb _ _ (c .if1 .left))
+
+pub is-node-spec : {M : Type 1} → statement M
+is-node-spec = tie.close (tie.spec returns returns-2)

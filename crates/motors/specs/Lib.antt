@@ -1,0 +1,5 @@
+pub mod Motor
+pub mod Register
+pub mod Report
+pub mod Places
+pub mod Filing

@@ -1,0 +1,75 @@
+-- A motor's record, the order of records, and what its fields may hold (document 01, "The register", rows 20, 21 and 23).
+-- Assumes nothing.
+use Prim.Native.Nat.{ℕ}
+use mathlib.Core.Bool.{Bool, true, false}
+use lib.Dec.{leb, ltb, eqb}
+use Rattle.meaning.specs.Choice.{if_then_else_}
+use Rattle.motors.specs.declared.motor.Motor.{Motor}
+
+abbrev pub motor : ℕ → ℕ → Bool → ℕ → ℕ → ℕ → Motor
+motor line node reading pulse percent ip =
+    record { line = line; node = node; reading = reading; pulse = pulse; percent = percent; ip = ip }
+
+-- A motor of which no reading exists, and one with its last reading.
+abbrev pub unread : ℕ → ℕ → Motor
+unread line node = motor line node false 0 0 0
+
+abbrev pub withReading : ℕ → ℕ → ℕ → ℕ → ℕ → Motor
+withReading line node pulse percent ip = motor line node true pulse percent ip
+
+-- A place that holds no motor.
+abbrev pub zeros : Motor
+zeros = unread 0 0
+
+-- Ascending order: line, then NodeID as a number.
+unfoldable pub earlierOf : Motor → Motor → Bool
+earlierOf x y =
+    if ltb (x .line) (y .line) then true else
+    if eqb (x .line) (y .line) then ltb (x .node) (y .node) else
+    false
+
+-- A motor is a line and a NodeID.
+unfoldable pub isMotor : Motor → ℕ → ℕ → Bool
+isMotor m line node = if eqb (m .line) line then eqb (m .node) node else false
+
+-- Row 20: lines 0 to 3.
+abbrev pub isLine : ℕ → Bool
+isLine line = leb line 3
+
+-- Row 21: NodeIDs 000001h to FFFEFFh.
+unfoldable pub isNode : ℕ → Bool
+isNode node = if ltb node 0x000001 then false else leb node 0xFFFEFF
+
+-- Row 23: percent 0 to 100, IP 1 to 16 or FFh.
+unfoldable pub isReading : ℕ → ℕ → Bool
+isReading percent ip =
+    if ltb 100 percent then false else
+    if eqb ip 0xFF then true else
+    if ltb ip 1 then false else
+    leb ip 16
+
+-- Without a reading that part is zeros.
+unfoldable pub unreadPart : Motor → Bool
+unreadPart m = if eqb (m .pulse) 0 then if eqb (m .percent) 0 then eqb (m .ip) 0 else false else false
+
+-- The fields of a record held.
+unfoldable pub rightOf : Motor → Bool
+rightOf m =
+    if isLine (m .line) then
+    if isNode (m .node) then
+    if m .reading then isReading (m .percent) (m .ip) else unreadPart m
+    else false
+    else false
+
+-- A place that is all zeros.
+unfoldable pub blankOf : Motor → Bool
+blankOf m =
+    if eqb (m .line) 0 then
+    if eqb (m .node) 0 then
+    if m .reading then false else unreadPart m
+    else false
+    else false
+
+-- A record that may stand behind another: right, and strictly later. The first may stand behind zeros.
+unfoldable pub followsOf : Motor → Motor → Bool
+followsOf previous m = if rightOf m then earlierOf previous m else false
