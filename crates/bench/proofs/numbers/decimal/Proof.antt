@@ -1,0 +1,35 @@
+-- The total stays within 32 bits.
+-- Assumes nothing.
+use borrow.Author.Needs.{needs}
+use Prim.Native.Nat.{_≤_, _-_}
+use lib.ListN.{length}
+use Rattle.bench.proofs.numbers.decimal.Statement.{statement}
+use Rattle.bench.proofs.numbers.decimal.Tie as tie
+
+abbrev Inv-loop : tie.InvT-loop
+Inv-loop word count total₀ i₀ total i = (i ≤ length word) × (total ≤ 4294967295)
+
+abbrev μ-loop : tie.MeasureT-loop
+μ-loop word count total₀ i₀ total i = length word - i
+
+pub decimal-spec : {M : Type 1} → statement M
+decimal-spec =
+    tie.close
+    (tie.spec
+    Inv-loop
+    μ-loop
+    (λ c. search needs)
+    (λ c. search needs)
+    (λ c. search needs)
+    (λ c. search needs)
+    (λ c. search needs)
+    (λ c. search needs)
+    (λ c. search needs)
+    (λ c. search needs)
+    (λ c. search needs)
+    (λ c. search needs)
+    (λ c. search needs)
+    (λ c. search needs)
+    (λ c. search needs)
+    (λ c. search needs)
+    (λ c. search needs))
