@@ -45,12 +45,12 @@ pub(crate) fn set_group(node: Node, request: Header, bundle: &[u8]) -> Turn
     if !holds(bundle, 4) {
         return declined(node, request, Code::TooLittleData);
     }
-    let index = data_byte(bundle, 0);
-    if index > 15 {
+    let entry = data_byte(bundle, 0);
+    if entry > 15 {
         return declined(node, request, Code::OutOfRange);
     }
     let change = Change::Put(
-        index,
+        entry,
         data_byte(bundle, 1),
         data_byte(bundle, 2),
         data_byte(bundle, 3),

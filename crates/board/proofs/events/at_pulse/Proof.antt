@@ -1,8 +1,8 @@
 -- Row 33, then 30.
 -- Assumes nothing.
 use borrow.Author.Needs.{needs}
-use borrow.Author.Tests.{not-true, not-false}
 use mathlib.Core.Path.{_∙_, sym, ap}
+use Rattle.meaning.specs.Chosen.{found-false, found-true}
 use Rattle.board.specs.Node.{withDrive}
 use Rattle.board.specs.Events.{done}
 use Rattle.board.proofs.EventRows.{pulse-broken, pulse-beyond, pulse-done}
@@ -19,7 +19,7 @@ returns : tie.Need-returns
 returns c =
     let b = c .before .before in
     let x = b .before .args in
-    c .refused .ensures ∙ sym (pulse-broken (x .node) (sym (b .is-sound .ensures) ∙ not-true (b .is-sound .result) (c .before .if1 .taken)) (x .pulse))
+    c .refused .ensures ∙ sym (pulse-broken (x .node) (found-false (b .is-sound .ensures) (c .before .if1 .taken)) (x .pulse))
 
 refused-requires-2 : tie.Need-refused-requires-2
 refused-requires-2 c κs = search needs
@@ -29,7 +29,7 @@ returns-2 c =
     let b = c .before .before .before .before in
     let x = b .before .before .args in
     c .refused2 .ensures
-    ∙ sym (pulse-beyond (x .node) (sym (b .before .is-sound .ensures) ∙ not-false (b .before .is-sound .result) (b .if1 .left)) (x .pulse) (c .before .if2 .taken))
+    ∙ sym (pulse-beyond (x .node) (found-true (b .before .is-sound .ensures) (b .if1 .left)) (x .pulse) (c .before .if2 .taken))
 
 at-pulse-requires : tie.Need-at-pulse-requires
 at-pulse-requires c κs = search needs
@@ -46,7 +46,7 @@ returns-3 c =
     let x = b .before .before .args in
     c .done .ensures
     ∙ ap done (c .before .with-drive .ensures ∙ ap (withDrive (x .node)) (c .before .before .at-pulse .ensures))
-    ∙ sym (pulse-done (x .node) (sym (b .before .is-sound .ensures) ∙ not-false (b .before .is-sound .result) (b .if1 .left)) (x .pulse) (c .before .before .before .before .if2 .left))
+    ∙ sym (pulse-done (x .node) (found-true (b .before .is-sound .ensures) (b .if1 .left)) (x .pulse) (c .before .before .before .before .if2 .left))
 
 pub at-pulse-spec : {M : Type 1} → statement M
 at-pulse-spec =

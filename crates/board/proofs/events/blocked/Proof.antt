@@ -1,8 +1,8 @@
 -- Row 33, then 31.
 -- Assumes nothing.
 use borrow.Author.Needs.{needs}
-use borrow.Author.Tests.{not-true, not-false}
 use mathlib.Core.Path.{_∙_, sym, ap}
+use Rattle.meaning.specs.Chosen.{found-false, found-true}
 use Rattle.board.specs.Node.{withDrive}
 use Rattle.board.specs.Events.{done}
 use Rattle.board.proofs.EventRows.{blocked-broken, blocked-refused, blocked-done}
@@ -19,7 +19,7 @@ returns : tie.Need-returns
 returns c =
     let b = c .before .before in
     let x = b .before .args in
-    c .refused .ensures ∙ sym (blocked-broken (x .node) (sym (b .is-sound .ensures) ∙ not-true (b .is-sound .result) (c .before .if1 .taken)) (x .cause))
+    c .refused .ensures ∙ sym (blocked-broken (x .node) (found-false (b .is-sound .ensures) (c .before .if1 .taken)) (x .cause))
 
 blocks-requires : tie.Need-blocks-requires
 blocks-requires c κs = search needs
@@ -34,9 +34,9 @@ returns-2 c =
     let x = b .before .before .args in
     c .refused2 .ensures
     ∙ sym (blocked-refused (x .node)
-    (sym (b .before .is-sound .ensures) ∙ not-false (b .before .is-sound .result) (b .if1 .left))
+    (found-true (b .before .is-sound .ensures) (b .if1 .left))
     (x .cause)
-    (sym (k .blocks2 .ensures) ∙ not-true (k .blocks2 .result) (c .before .if2 .taken)))
+    (found-false (k .blocks2 .ensures) (c .before .if2 .taken)))
 
 blocked-by-requires : tie.Need-blocked-by-requires
 blocked-by-requires c κs = search needs
@@ -55,9 +55,9 @@ returns-3 c =
     c .done .ensures
     ∙ ap done (c .before .with-drive .ensures ∙ ap (withDrive (x .node)) (c .before .before .blocked-by .ensures))
     ∙ sym (blocked-done (x .node)
-    (sym (b .before .is-sound .ensures) ∙ not-false (b .before .is-sound .result) (b .if1 .left))
+    (found-true (b .before .is-sound .ensures) (b .if1 .left))
     (x .cause)
-    (sym (k .blocks2 .ensures) ∙ not-false (k .blocks2 .result) (c .before .before .before .before .if2 .left)))
+    (found-true (k .blocks2 .ensures) (c .before .before .before .before .if2 .left)))
 
 pub blocked-spec : {M : Type 1} → statement M
 blocked-spec =

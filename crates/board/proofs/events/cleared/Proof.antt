@@ -1,8 +1,8 @@
 -- Row 33 alone.
 -- Assumes nothing.
 use borrow.Author.Needs.{needs}
-use borrow.Author.Tests.{not-true, not-false}
 use mathlib.Core.Path.{_∙_, sym, ap}
+use Rattle.meaning.specs.Chosen.{found-false, found-true}
 use Rattle.board.specs.Node.{withDrive}
 use Rattle.board.specs.Events.{done}
 use Rattle.board.proofs.EventRows.{cleared-broken, cleared-done}
@@ -19,7 +19,7 @@ returns : tie.Need-returns
 returns c =
     let b = c .before .before in
     let x = b .before .args in
-    c .refused .ensures ∙ sym (cleared-broken (x .node) (sym (b .is-sound .ensures) ∙ not-true (b .is-sound .result) (c .before .if1 .taken)))
+    c .refused .ensures ∙ sym (cleared-broken (x .node) (found-false (b .is-sound .ensures) (c .before .if1 .taken)))
 
 unblocked-requires : tie.Need-unblocked-requires
 unblocked-requires c κs = search needs
@@ -36,7 +36,7 @@ returns-2 c =
     let x = b .before .before .args in
     c .done .ensures
     ∙ ap done (c .before .with-drive .ensures ∙ ap (withDrive (x .node)) (c .before .before .unblocked .ensures))
-    ∙ sym (cleared-done (x .node) (sym (b .before .is-sound .ensures) ∙ not-false (b .before .is-sound .result) (b .if1 .left)))
+    ∙ sym (cleared-done (x .node) (found-true (b .before .is-sound .ensures) (b .if1 .left)))
 
 pub cleared-spec : {M : Type 1} → statement M
 cleared-spec =

@@ -1,8 +1,8 @@
 -- Row 33 alone.
 -- Assumes nothing.
 use borrow.Author.Needs.{needs}
-use borrow.Author.Tests.{not-true, not-false}
 use mathlib.Core.Path.{_∙_, sym, ap, ap₂}
+use Rattle.meaning.specs.Chosen.{found-false, found-true}
 use Rattle.board.specs.Node.{withDrive, withLock}
 use Rattle.board.specs.Events.{done}
 use Rattle.board.proofs.EventRows.{power-up-broken, power-up-done}
@@ -19,7 +19,7 @@ returns : tie.Need-returns
 returns c =
     let b = c .before .before in
     let x = b .before .args in
-    c .refused .ensures ∙ sym (power-up-broken (x .node) (sym (b .is-sound .ensures) ∙ not-true (b .is-sound .result) (c .before .if1 .taken)))
+    c .refused .ensures ∙ sym (power-up-broken (x .node) (found-false (b .is-sound .ensures) (c .before .if1 .taken)))
 
 powered-up-requires : tie.Need-powered-up-requires
 powered-up-requires c κs = search needs
@@ -44,7 +44,7 @@ returns-2 c =
     ∙ ap done (c .before .with-lock .ensures ∙ ap₂ withLock
     (c .before .before .with-drive .ensures ∙ ap (withDrive (x .node)) (c .before .before .before .before .before .powered-up .ensures))
     (c .before .before .before .over-power-up .ensures))
-    ∙ sym (power-up-done (x .node) (sym (b .before .is-sound .ensures) ∙ not-false (b .before .is-sound .result) (b .if1 .left)))
+    ∙ sym (power-up-done (x .node) (found-true (b .before .is-sound .ensures) (b .if1 .left)))
 
 pub power-up-spec : {M : Type 1} → statement M
 power-up-spec =

@@ -1,8 +1,8 @@
 -- Row 32 decides.
 -- Assumes nothing.
 use borrow.Author.Needs.{needs}
-use borrow.Author.Tests.{not-true, not-false}
 use mathlib.Core.Path.{_∙_, sym, ap}
+use Rattle.meaning.specs.Chosen.{found-false, found-true}
 use Rattle.refusal.specs.declared.Refusal.{Refusal}
 use Rattle.board.specs.Events.{done, refusedBy}
 use Rattle.board.specs.declared.whole.Node.{Node}
@@ -26,7 +26,7 @@ unfolding setUp
 returns c =
     let s = c .before .before .before .before .args .settings in
     c .refused .ensures ∙ ap (λ (n : Node). refusedBy n Refusal.BadSettings) (c .before .before .before .fresh .ensures)
-    ∙ sym (set-up-refused s (sym (c .before .before .in-range .ensures) ∙ not-true (c .before .before .in-range .result) (c .before .if1 .taken)))
+    ∙ sym (set-up-refused s (found-false (c .before .before .in-range .ensures) (c .before .if1 .taken)))
 
 done-requires : tie.Need-done-requires
 done-requires c κs = search needs
@@ -36,7 +36,7 @@ unfolding setUp
 returns-2 c =
     let s = c .before .before .before .before .args .settings in
     c .done .ensures ∙ ap done (c .before .before .before .fresh .ensures)
-    ∙ sym (set-up-done s (sym (c .before .before .in-range .ensures) ∙ not-false (c .before .before .in-range .result) (c .before .if1 .left)))
+    ∙ sym (set-up-done s (found-true (c .before .before .in-range .ensures) (c .before .if1 .left)))
 
 pub set-up-spec : {M : Type 1} → statement M
 set-up-spec =

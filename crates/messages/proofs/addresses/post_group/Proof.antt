@@ -2,7 +2,7 @@
 -- Assumes nothing.
 use borrow.Author.Needs.{needs}
 use mathlib.Core.Path.{_∙_, sym, ap}
-use borrow.Author.Tests.{not-true, not-false}
+use Rattle.meaning.specs.Chosen.{found-false, found-true}
 use Rattle.frame.specs.Layout.{dataOf}
 use Rattle.turn.specs.Replies.{answered}
 use Rattle.messages.proofs.Rows.{group-short, group-unknown, group-told}
@@ -20,7 +20,7 @@ returns c =
     let h = c .before .before in
     let x = h .before .before .args in
     c .declined .ensures ∙ ap (answered (x .node) (x .request))
-    (sym (group-short (x .t2) (dataOf (x .bundle .now)) (sym (h .holds .ensures) ∙ not-true (h .holds .result) (c .before .if1 .taken))))
+    (sym (group-short (x .t2) (dataOf (x .bundle .now)) (found-false (h .holds .ensures) (c .before .if1 .taken))))
 
 data-byte-requires : tie.Need-data-byte-requires
 data-byte-requires c κs = search needs
@@ -35,7 +35,7 @@ returns-2 c =
     let x = h .before .before .args in
     c .declined2 .ensures ∙ ap (answered (x .node) (x .request))
     (sym (group-unknown (x .t2) (dataOf (x .bundle .now)) (b .data-byte .result)
-    (sym (h .holds .ensures) ∙ not-false (h .holds .result) (b .before .if1 .left)) (b .data-byte .ensures) (c .before .if2 .taken)))
+    (found-true (h .holds .ensures) (b .before .if1 .left)) (b .data-byte .ensures) (c .before .if2 .taken)))
 
 cast-place : tie.Need-cast-place
 cast-place c = search needs
@@ -68,7 +68,7 @@ returns-3 c =
     let x = h .before .before .args in
     c .posted .ensures ∙ ap (answered (x .node) (x .request))
     (sym (group-told (x .t2) (dataOf (x .bundle .now)) (b .data-byte .result)
-    (sym (h .holds .ensures) ∙ not-false (h .holds .result) (b .before .if1 .left)) (b .data-byte .ensures) (c .before .before .before .if2 .left)))
+    (found-true (h .holds .ensures) (b .before .if1 .left)) (b .data-byte .ensures) (c .before .before .before .if2 .left)))
 
 pub post-group-spec : {M : Type 1} → statement M
 post-group-spec =

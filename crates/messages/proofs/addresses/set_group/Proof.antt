@@ -2,7 +2,7 @@
 -- Assumes nothing.
 use borrow.Author.Needs.{needs}
 use mathlib.Core.Path.{_∙_, sym, ap}
-use borrow.Author.Tests.{not-true, not-false}
+use Rattle.meaning.specs.Chosen.{found-false, found-true}
 use Rattle.frame.specs.Layout.{dataOf}
 use Rattle.turn.specs.Replies.{answered}
 use Rattle.messages.proofs.Rows.{set-group-short, set-group-unknown, set-group-done}
@@ -20,7 +20,7 @@ returns c =
     let h = c .before .before in
     let x = h .before .before .args in
     c .declined .ensures ∙ ap (answered (x .node) (x .request))
-    (sym (set-group-short (x .node) (dataOf (x .bundle .now)) (sym (h .holds .ensures) ∙ not-true (h .holds .result) (c .before .if1 .taken))))
+    (sym (set-group-short (x .node) (dataOf (x .bundle .now)) (found-false (h .holds .ensures) (c .before .if1 .taken))))
 
 data-byte-requires : tie.Need-data-byte-requires
 data-byte-requires c κs = search needs
@@ -35,7 +35,7 @@ returns-2 c =
     let x = h .before .before .args in
     c .declined2 .ensures ∙ ap (answered (x .node) (x .request))
     (sym (set-group-unknown (x .node) (dataOf (x .bundle .now)) (b .data-byte .result)
-    (sym (h .holds .ensures) ∙ not-false (h .holds .result) (b .before .if1 .left)) (b .data-byte .ensures) (c .before .if2 .taken)))
+    (found-true (h .holds .ensures) (b .before .if1 .left)) (b .data-byte .ensures) (c .before .if2 .taken)))
 
 data-byte-requires-2 : tie.Need-data-byte-requires-2
 data-byte-requires-2 c κs = search needs
@@ -59,7 +59,7 @@ returns-3 c =
     let x = h .before .before .args in
     c .accepted .ensures ∙ ap (answered (x .node) (x .request))
     (sym (set-group-done (x .node) (dataOf (x .bundle .now)) (b .data-byte .result)
-    (sym (h .holds .ensures) ∙ not-false (h .holds .result) (b .before .if1 .left)) (b .data-byte .ensures)
+    (found-true (h .holds .ensures) (b .before .if1 .left)) (b .data-byte .ensures)
     (low .data-byte2 .result) (middle .data-byte3 .result) (high .data-byte4 .result)
     (low .before .if2 .left) (low .data-byte2 .ensures) (middle .data-byte3 .ensures) (high .data-byte4 .ensures)))
 

@@ -2,7 +2,7 @@
 -- Assumes nothing.
 use borrow.Author.Needs.{needs}
 use mathlib.Core.Path.{_∙_, sym, ap}
-use borrow.Author.Tests.{not-true, not-false}
+use Rattle.meaning.specs.Chosen.{found-false, found-true}
 use Rattle.frame.specs.Layout.{dataOf}
 use Rattle.turn.specs.Replies.{answered}
 use Rattle.messages.proofs.Rows.{ip-short, ip-unknown, ip-told}
@@ -20,7 +20,7 @@ returns c =
     let h = c .before .before in
     let x = h .before .before .args in
     c .declined .ensures ∙ ap (answered (x .node) (x .request))
-    (sym (ip-short (x .node) (dataOf (x .bundle .now)) (sym (h .holds .ensures) ∙ not-true (h .holds .result) (c .before .if1 .taken))))
+    (sym (ip-short (x .node) (dataOf (x .bundle .now)) (found-false (h .holds .ensures) (c .before .if1 .taken))))
 
 data-byte-requires : tie.Need-data-byte-requires
 data-byte-requires c κs = search needs
@@ -39,8 +39,8 @@ returns-2 c =
     let x = h .before .before .args in
     c .declined2 .ensures ∙ ap (answered (x .node) (x .request))
     (sym (ip-unknown (x .node) (dataOf (x .bundle .now)) (b .data-byte .result)
-    (sym (h .holds .ensures) ∙ not-false (h .holds .result) (b .before .if1 .left)) (b .data-byte .ensures)
-    (sym (i .is-number .ensures) ∙ not-true (i .is-number .result) (c .before .if2 .taken))))
+    (found-true (h .holds .ensures) (b .before .if1 .left)) (b .data-byte .ensures)
+    (found-false (i .is-number .ensures) (c .before .if2 .taken))))
 
 ip-at-requires : tie.Need-ip-at-requires
 ip-at-requires c κs = search needs
@@ -65,9 +65,9 @@ returns-3 c =
     let x = h .before .before .args in
     c .posted .ensures ∙ ap (answered (x .node) (x .request))
     (sym (ip-told (x .node) (dataOf (x .bundle .now)) (b .data-byte .result)
-    (sym (h .holds .ensures) ∙ not-false (h .holds .result) (b .before .if1 .left)) (b .data-byte .ensures)
+    (found-true (h .holds .ensures) (b .before .if1 .left)) (b .data-byte .ensures)
     (a .ip-at .result) (p .percent-or .result)
-    (sym (i .is-number .ensures) ∙ not-false (i .is-number .result) (n .if2 .left)) (a .ip-at .ensures) (p .percent-or .ensures)))
+    (found-true (i .is-number .ensures) (n .if2 .left)) (a .ip-at .ensures) (p .percent-or .ensures)))
 
 pub post-ip-spec : {M : Type 1} → statement M
 post-ip-spec =

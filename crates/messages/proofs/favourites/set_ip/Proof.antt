@@ -3,7 +3,7 @@
 use borrow.Author.Needs.{needs}
 use mathlib.Core.Path.{_≡_, _∙_, sym, ap, ap₂}
 use Prim.Native.Nat.{ℕ, _+_, _*_}
-use borrow.Author.Tests.{not-true, not-false}
+use Rattle.meaning.specs.Chosen.{found-false, found-true}
 use Rattle.travel.specs.declared.Pulse.{Pulse}
 use Rattle.board.specs.Favourites.{withIp}
 use Rattle.board.specs.declared.favourites.Favourites.{Favourites}
@@ -28,7 +28,7 @@ ordered c =
     let h = low .before .before in
     let x = h .before .before .args in
     set-ip-ordered (x .node) (dataOf (x .bundle .now)) (f .data-byte3 .result) (i .data-byte4 .result) (w .word .result) (c .order-of .result)
-    (sym (h .holds .ensures) ∙ not-false (h .holds .result) (low .before .if1 .left))
+    (found-true (h .holds .ensures) (low .before .if1 .left))
     (f .data-byte3 .ensures)
     (i .data-byte4 .ensures)
     (w .word .ensures ∙ ap₂ (λ (l m : ℕ). l + 256 * m) (low .data-byte .ensures) (high .data-byte2 .ensures))
@@ -45,7 +45,7 @@ returns c =
     let h = c .before .before in
     let x = h .before .before .args in
     c .declined .ensures ∙ ap (answered (x .node) (x .request))
-    (sym (set-ip-short (x .node) (dataOf (x .bundle .now)) (sym (h .holds .ensures) ∙ not-true (h .holds .result) (c .before .if1 .taken))))
+    (sym (set-ip-short (x .node) (dataOf (x .bundle .now)) (found-false (h .holds .ensures) (c .before .if1 .taken))))
 
 data-byte-requires : tie.Need-data-byte-requires
 data-byte-requires c κs = search needs

@@ -2,7 +2,7 @@
 -- Assumes nothing.
 use borrow.Author.Needs.{needs}
 use mathlib.Core.Path.{_∙_, sym, ap, ap₂}
-use borrow.Author.Tests.{not-true, not-false}
+use Rattle.meaning.specs.Chosen.{found-false, found-true}
 use Rattle.board.specs.Node.{withDrive, withLock}
 use Rattle.board.specs.declared.whole.Node.{Node}
 use Rattle.turn.specs.declared.turn.Change.the-variants.{Keep}
@@ -22,7 +22,7 @@ returns c =
     let a = c .before .before in
     let x = a .before .before .args in
     c .declined .ensures ∙ ap (answered (x .node) (x .request))
-    (sym (lock-refused (x .node) (x .request .source) (x .priority) (sym (a .admits .ensures) ∙ not-true (a .admits .result) (c .before .if1 .taken))))
+    (sym (lock-refused (x .node) (x .request .source) (x .priority) (found-false (a .admits .ensures) (c .before .if1 .taken))))
 
 halted-requires : tie.Need-halted-requires
 halted-requires c κs = search needs
@@ -47,7 +47,7 @@ returns-2 c =
     (ap (λ (n : Node). acts n Keep)
     (c .before .with-lock .ensures
     ∙ ap₂ withLock (c .before .before .with-drive .ensures ∙ ap (withDrive (x .node)) (c .before .before .before .before .halted .ensures)) (c .before .before .before .locked .ensures))
-    ∙ sym (lock-done (x .node) (x .request .source) (x .priority) (sym (a .admits .ensures) ∙ not-false (a .admits .result) (c .before .before .before .before .before .before .before .if1 .left))))
+    ∙ sym (lock-done (x .node) (x .request .source) (x .priority) (found-true (a .admits .ensures) (c .before .before .before .before .before .before .before .if1 .left))))
 
 pub lock-at-spec : {M : Type 1} → statement M
 lock-at-spec =

@@ -2,7 +2,7 @@
 -- Assumes nothing.
 use borrow.Author.Needs.{needs}
 use mathlib.Core.Path.{_≡_, _∙_, sym, ap}
-use borrow.Author.Tests.{not-true, not-false}
+use Rattle.meaning.specs.Chosen.{found-false, found-true}
 use Rattle.board.specs.declared.lock.Lock.{Lock}
 use Rattle.frame.specs.Layout.{dataOf}
 use Rattle.turn.specs.Replies.{answered}
@@ -21,7 +21,7 @@ by-function c =
     let h = p .before .before in
     let x = h .before .before .args in
     set-lock-by (x .node) (x .request .source) (dataOf (x .bundle .now)) (c .data-byte2 .result) (p .data-byte .result)
-    (sym (h .holds .ensures) ∙ not-false (h .holds .result) (p .before .if1 .left))
+    (found-true (h .holds .ensures) (p .before .if1 .left))
     (c .data-byte2 .ensures)
     (p .data-byte .ensures)
 
@@ -36,7 +36,7 @@ returns c =
     let h = c .before .before in
     let x = h .before .before .args in
     c .declined .ensures ∙ ap (answered (x .node) (x .request))
-    (sym (set-lock-short (x .node) (dataOf (x .bundle .now)) (x .request .source) (sym (h .holds .ensures) ∙ not-true (h .holds .result) (c .before .if1 .taken))))
+    (sym (set-lock-short (x .node) (dataOf (x .bundle .now)) (x .request .source) (found-false (h .holds .ensures) (c .before .if1 .taken))))
 
 data-byte-requires : tie.Need-data-byte-requires
 data-byte-requires c κs = search needs

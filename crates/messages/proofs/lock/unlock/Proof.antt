@@ -2,7 +2,7 @@
 -- Assumes nothing.
 use borrow.Author.Needs.{needs}
 use mathlib.Core.Path.{_∙_, sym, ap}
-use borrow.Author.Tests.{not-true, not-false}
+use Rattle.meaning.specs.Chosen.{found-false, found-true}
 use Rattle.board.specs.declared.lock.Lock.{Lock}
 use Rattle.turn.specs.Replies.{answered}
 use Rattle.messages.specs.Locking.{keepingLock}
@@ -21,7 +21,7 @@ returns c =
     let a = c .before .before in
     let x = a .before .before .args in
     c .declined .ensures ∙ ap (answered (x .node) (x .request))
-    (sym (unlock-refused (x .node) (x .request .source) (x .priority) (sym (a .admits .ensures) ∙ not-true (a .admits .result) (c .before .if1 .taken))))
+    (sym (unlock-refused (x .node) (x .request .source) (x .priority) (found-false (a .admits .ensures) (c .before .if1 .taken))))
 
 unlocked-requires : tie.Need-unlocked-requires
 unlocked-requires c κs = search needs
@@ -35,7 +35,7 @@ returns-2 c =
     let x = a .before .before .args in
     c .keep .ensures ∙ ap (answered (x .node) (x .request))
     (ap (λ (l : Lock). keepingLock (x .node) l) (c .before .unlocked .ensures)
-    ∙ sym (unlock-done (x .node) (x .request .source) (x .priority) (sym (a .admits .ensures) ∙ not-false (a .admits .result) (c .before .before .if1 .left))))
+    ∙ sym (unlock-done (x .node) (x .request .source) (x .priority) (found-true (a .admits .ensures) (c .before .before .if1 .left))))
 
 pub unlock-spec : {M : Type 1} → statement M
 unlock-spec =

@@ -3,7 +3,7 @@
 use borrow.Author.Needs.{needs}
 use mathlib.Core.Path.{_≡_, _∙_, sym, ap, ap₂}
 use Prim.Native.Nat.{ℕ, _+_, _*_}
-use borrow.Author.Tests.{not-true, not-false}
+use Rattle.meaning.specs.Chosen.{found-false, found-true}
 use Rattle.board.specs.Node.{withDrive}
 use Rattle.board.specs.declared.whole.Node.{Node}
 use Rattle.frame.specs.Layout.{dataOf}
@@ -26,7 +26,7 @@ aimed c =
     let h = low .before .before in
     let x = h .before .before .args in
     move-aimed (x .node) (dataOf (x .bundle .now)) (f .data-byte3 .result) (w .word .result) (c .aim-of .result)
-    (sym (h .holds .ensures) ∙ not-false (h .holds .result) (low .before .if1 .left))
+    (found-true (h .holds .ensures) (low .before .if1 .left))
     (f .data-byte3 .ensures)
     (w .word .ensures ∙ ap₂ (λ (l m : ℕ). l + 256 * m) (low .data-byte .ensures) (high .data-byte2 .ensures))
     (c .aim-of .ensures)
@@ -42,7 +42,7 @@ returns c =
     let h = c .before .before in
     let x = h .before .before .args in
     c .declined .ensures ∙ ap (answered (x .node) (x .request))
-    (sym (move-short (x .node) (dataOf (x .bundle .now)) (sym (h .holds .ensures) ∙ not-true (h .holds .result) (c .before .if1 .taken))))
+    (sym (move-short (x .node) (dataOf (x .bundle .now)) (found-false (h .holds .ensures) (c .before .if1 .taken))))
 
 data-byte-requires : tie.Need-data-byte-requires
 data-byte-requires c κs = search needs
@@ -71,7 +71,7 @@ returns-2 c =
     let a = i .before in
     let x = a .before .before .before .before .before .before .before .before .args in
     c .declined2 .ensures ∙ ap (answered (x .node) (x .request))
-    (sym (aimed a ∙ move-nowhere (x .node) (a .aim-of .result) (sym (i .is-aim .ensures) ∙ not-true (i .is-aim .result) (c .before .if2 .taken))))
+    (sym (aimed a ∙ move-nowhere (x .node) (a .aim-of .result) (found-false (i .is-aim .ensures) (c .before .if2 .taken))))
 
 declined-requires-3 : tie.Need-declined-requires-3
 declined-requires-3 c κs = search needs
@@ -82,7 +82,7 @@ returns-3 c =
     let a = i .before in
     let x = a .before .before .before .before .before .before .before .before .args in
     c .declined3 .ensures ∙ ap (answered (x .node) (x .request))
-    (sym (aimed a ∙ move-locked (x .node) (a .aim-of .result) (sym (i .is-aim .ensures) ∙ not-false (i .is-aim .result) (c .before .before .if2 .left)) (c .before .if3 .taken)))
+    (sym (aimed a ∙ move-locked (x .node) (a .aim-of .result) (found-true (i .is-aim .ensures) (c .before .before .if2 .left)) (c .before .if3 .taken)))
 
 declined-requires-4 : tie.Need-declined-requires-4
 declined-requires-4 c κs = search needs
@@ -93,7 +93,7 @@ returns-4 c =
     let a = i .before in
     let x = a .before .before .before .before .before .before .before .before .args in
     c .declined4 .ensures ∙ ap (answered (x .node) (x .request))
-    (sym (aimed a ∙ move-blocked (x .node) (a .aim-of .result) (sym (i .is-aim .ensures) ∙ not-false (i .is-aim .result) (c .before .before .before .if2 .left)) (c .before .before .if3 .left) (c .before .if4 .taken)))
+    (sym (aimed a ∙ move-blocked (x .node) (a .aim-of .result) (found-true (i .is-aim .ensures) (c .before .before .before .if2 .left)) (c .before .before .if3 .left) (c .before .if4 .taken)))
 
 target-of-requires : tie.Need-target-of-requires
 target-of-requires c κs = search needs
@@ -124,7 +124,7 @@ returns-5 c =
     let x = a .before .before .before .before .before .before .before .before .args in
     c .declined5 .ensures ∙ ap (answered (x .node) (x .request))
     (sym (aimed a
-    ∙ move-free (x .node) (a .aim-of .result) (sym (i .is-aim .ensures) ∙ not-false (i .is-aim .result) (t .before .before .before .if2 .left))
+    ∙ move-free (x .node) (a .aim-of .result) (found-true (i .is-aim .ensures) (t .before .before .before .if2 .left))
     (t .target-of .result) (t .before .before .if3 .left) (t .before .if4 .left) (t .target-of .ensures)
     ∙ ap (movingTo (x .node)) (c .before .enum-told .given .1)))
 
@@ -137,7 +137,7 @@ returns-6 c =
     c .accepted .ensures ∙ ap (answered (x .node) (x .request))
     (ap (λ (n : Node). acts n Keep) (c .before .with-drive .ensures ∙ ap (withDrive (x .node)) (c .before .before .moved-to .ensures))
     ∙ sym (aimed a
-    ∙ move-free (x .node) (a .aim-of .result) (sym (i .is-aim .ensures) ∙ not-false (i .is-aim .result) (t .before .before .before .if2 .left))
+    ∙ move-free (x .node) (a .aim-of .result) (found-true (i .is-aim .ensures) (t .before .before .before .if2 .left))
     (t .target-of .result) (t .before .before .if3 .left) (t .before .if4 .left) (t .target-of .ensures)
     ∙ ap (movingTo (x .node)) (c .before .before .before .before .before .target .given .1)))
 

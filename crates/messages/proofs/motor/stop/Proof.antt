@@ -2,7 +2,7 @@
 -- Assumes nothing.
 use borrow.Author.Needs.{needs}
 use mathlib.Core.Path.{_∙_, sym, ap}
-use borrow.Author.Tests.{not-true, not-false}
+use Rattle.meaning.specs.Chosen.{found-false, found-true}
 use Rattle.board.specs.Node.{withDrive}
 use Rattle.board.specs.declared.whole.Node.{Node}
 use Rattle.frame.specs.Layout.{dataOf}
@@ -23,7 +23,7 @@ returns c =
     let h = c .before .before in
     let x = h .before .before .args in
     c .declined .ensures ∙ ap (answered (x .node) (x .request))
-    (sym (stop-short (x .node) (dataOf (x .bundle .now)) (sym (h .holds .ensures) ∙ not-true (h .holds .result) (c .before .if1 .taken))))
+    (sym (stop-short (x .node) (dataOf (x .bundle .now)) (found-false (h .holds .ensures) (c .before .if1 .taken))))
 
 declined-requires-2 : tie.Need-declined-requires-2
 declined-requires-2 c κs = search needs
@@ -33,7 +33,7 @@ returns-2 c =
     let h = c .before .before .before .before in
     let x = h .before .before .args in
     c .declined2 .ensures ∙ ap (answered (x .node) (x .request))
-    (sym (stop-locked (x .node) (dataOf (x .bundle .now)) (sym (h .holds .ensures) ∙ not-false (h .holds .result) (c .before .before .before .if1 .left)) (c .before .if2 .taken)))
+    (sym (stop-locked (x .node) (dataOf (x .bundle .now)) (found-true (h .holds .ensures) (c .before .before .before .if1 .left)) (c .before .if2 .taken)))
 
 halted-requires : tie.Need-halted-requires
 halted-requires c κs = search needs
@@ -50,7 +50,7 @@ returns-3 c =
     let x = h .before .before .args in
     c .accepted .ensures ∙ ap (answered (x .node) (x .request))
     (ap (λ (n : Node). acts n Keep) (c .before .with-drive .ensures ∙ ap (withDrive (x .node)) (c .before .before .halted .ensures))
-    ∙ sym (stop-done (x .node) (dataOf (x .bundle .now)) (sym (h .holds .ensures) ∙ not-false (h .holds .result) (c .before .before .before .before .before .before .if1 .left)) (c .before .before .before .before .if2 .left)))
+    ∙ sym (stop-done (x .node) (dataOf (x .bundle .now)) (found-true (h .holds .ensures) (c .before .before .before .before .before .before .if1 .left)) (c .before .before .before .before .if2 .left)))
 
 pub stop-spec : {M : Type 1} → statement M
 stop-spec =

@@ -1,8 +1,8 @@
 -- Row 33, rows 1 to 6, and then whether the frame is meant.
 -- Assumes nothing.
 use borrow.Author.Needs.{needs}
-use borrow.Author.Tests.{not-true, not-false}
 use mathlib.Core.Path.{_∙_, sym}
+use Rattle.meaning.specs.Chosen.{found-false, found-true}
 use Rattle.node.proofs.Turns.{by-row-33, by-row-1-to-6, carried-out, passed-over}
 use Rattle.node.proofs.frames.on_frame.Statement.{statement}
 use Rattle.node.proofs.frames.on_frame.Tie as tie
@@ -17,7 +17,7 @@ returns : tie.Need-returns
 returns c =
     let s = c .before .before in
     let x = s .before .before .args in
-    c .refused .ensures ∙ sym (by-row-33 (x .node) (x .groups) (x .bundle .now) (sym (s .is-sound .ensures) ∙ not-true (s .is-sound .result) (c .before .if1 .taken)))
+    c .refused .ensures ∙ sym (by-row-33 (x .node) (x .groups) (x .bundle .now) (found-false (s .is-sound .ensures) (c .before .if1 .taken)))
 
 read-requires : tie.Need-read-requires
 read-requires c κs = search needs
@@ -46,7 +46,7 @@ returns-2 c =
     let x = s .before .before .args in
     c .perform .ensures
     ∙ sym (carried-out (x .node) (x .groups) (x .bundle .now)
-    (sym (s .is-sound .ensures) ∙ not-false (s .is-sound .result) (f .before .if1 .left))
+    (found-true (s .is-sound .ensures) (f .before .if1 .left))
     (k .reading2 .given .0 .0) (k .reading2 .given .0 .1 .0) (sym (f .read .ensures) ∙ k .reading2 .given .1)
     (sym (m .is-meant .ensures) ∙ c .before .if2 .taken))
 
@@ -61,7 +61,7 @@ returns-3 c =
     let x = s .before .before .args in
     c .refused2 .ensures
     ∙ sym (by-row-1-to-6 (x .node) (x .groups) (x .bundle .now)
-    (sym (s .is-sound .ensures) ∙ not-false (s .is-sound .result) (f .before .if1 .left))
+    (found-true (s .is-sound .ensures) (f .before .if1 .left))
     (k .reading .given .0 .0) (sym (f .read .ensures) ∙ k .reading .given .1))
 
 returns-4 : tie.Need-returns-4
@@ -73,7 +73,7 @@ returns-4 c =
     let x = s .before .before .args in
     c .silent .ensures
     ∙ sym (passed-over (x .node) (x .groups) (x .bundle .now)
-    (sym (s .is-sound .ensures) ∙ not-false (s .is-sound .result) (f .before .if1 .left))
+    (found-true (s .is-sound .ensures) (f .before .if1 .left))
     (k .reading2 .given .0 .0) (k .reading2 .given .0 .1 .0) (sym (f .read .ensures) ∙ k .reading2 .given .1)
     (sym (m .is-meant .ensures) ∙ c .before .if2 .left))
 

@@ -1,9 +1,9 @@
 -- Each return is the first condition that does not hold.
 -- Assumes nothing.
 use borrow.Author.Needs.{needs}
-use borrow.Author.Tests.{not-true, not-false}
 use mathlib.Core.Path.{_∙_, sym, ap}
 use mathlib.Core.Bool.{not}
+use Rattle.meaning.specs.Chosen.{found-false, found-true}
 use Rattle.node.proofs.Addressing.{out-of-reach, no-sender, other-type, by-message}
 use Rattle.node.proofs.meant.is_meant.Statement.{statement}
 use Rattle.node.proofs.meant.is_meant.Tie as tie
@@ -15,7 +15,7 @@ returns : tie.Need-returns
 returns c =
     let r = c .before in
     let x = r .before .before .before .before .args in
-    sym (out-of-reach (x .settings) (x .groups) (x .request) (sym (r .reaches .ensures) ∙ not-true (r .reaches .result) (c .if1 .taken)))
+    sym (out-of-reach (x .settings) (x .groups) (x .request) (found-false (r .reaches .ensures) (c .if1 .taken)))
 
 is-sender-requires : tie.Need-is-sender-requires
 is-sender-requires c κs = search needs
@@ -26,8 +26,8 @@ returns-2 c =
     let r = s .before .before in
     let x = r .before .before .before .before .args in
     sym (no-sender (x .settings) (x .groups) (x .request)
-    (sym (r .reaches .ensures) ∙ not-false (r .reaches .result) (s .before .if1 .left))
-    (sym (s .is-sender .ensures) ∙ not-true (s .is-sender .result) (c .if2 .taken)))
+    (found-true (r .reaches .ensures) (s .before .if1 .left))
+    (found-false (s .is-sender .ensures) (c .if2 .taken)))
 
 suits-requires : tie.Need-suits-requires
 suits-requires c κs = search needs
@@ -39,9 +39,9 @@ returns-3 c =
     let r = s .before .before in
     let x = r .before .before .before .before .args in
     sym (other-type (x .settings) (x .groups) (x .request)
-    (sym (r .reaches .ensures) ∙ not-false (r .reaches .result) (s .before .if1 .left))
-    (sym (s .is-sender .ensures) ∙ not-false (s .is-sender .result) (t .before .if2 .left))
-    (sym (t .suits .ensures) ∙ not-true (t .suits .result) (c .if3 .taken)))
+    (found-true (r .reaches .ensures) (s .before .if1 .left))
+    (found-true (s .is-sender .ensures) (t .before .if2 .left))
+    (found-false (t .suits .ensures) (c .if3 .taken)))
 
 is-reply-requires : tie.Need-is-reply-requires
 is-reply-requires c κs = search needs
@@ -54,9 +54,9 @@ returns-4 c =
     let x = r .before .before .before .before .args in
     ap not (c .is-reply .ensures)
     ∙ sym (by-message (x .settings) (x .groups) (x .request)
-    (sym (r .reaches .ensures) ∙ not-false (r .reaches .result) (s .before .if1 .left))
-    (sym (s .is-sender .ensures) ∙ not-false (s .is-sender .result) (t .before .if2 .left))
-    (sym (t .suits .ensures) ∙ not-false (t .suits .result) (c .before .if3 .left)))
+    (found-true (r .reaches .ensures) (s .before .if1 .left))
+    (found-true (s .is-sender .ensures) (t .before .if2 .left))
+    (found-true (t .suits .ensures) (c .before .if3 .left)))
 
 pub is-meant-spec : {M : Type 1} → statement M
 is-meant-spec =

@@ -1,7 +1,6 @@
 -- What the slots from here on say is what all of them say.
 -- Assumes nothing.
 use borrow.Author.Needs.{needs}
-use borrow.Author.Tests.{not-true, not-false}
 use mathlib.Core.Path.{_≡_, refl, _∙_, sym}
 use mathlib.Core.Bool.{true, false}
 use mathlib.Core.List.{List}
@@ -10,6 +9,7 @@ use native.Mathlib.Omega.{arith}
 use native.Mathlib.Numerals.{add-one}
 use lib.ListN.{length, getD, drop, length-map, drop-of-length-le}
 use lib.Seq.{drop-cons}
+use Rattle.meaning.specs.Chosen.{found-false, found-true}
 use Rattle.travel.specs.declared.Pulse.{Pulse}
 use Rattle.board.specs.declared.favourites.Ip.the-variants.{Unset}
 use Rattle.board.specs.declared.favourites.Slot.{Slot}
@@ -56,7 +56,7 @@ returns c =
     let s = c .before .before .before .before in
     let n = sixteen (s .before) in
     let x = s .before .args in
-    sym (beyond (x .travel) (x .t1 .slots) (s .loop .place) (omega arith) (sym (c .before .ip-within .ensures) ∙ not-true (c .before .ip-within .result) (c .if1 .taken))) ∙ s .loop .inv .1
+    sym (beyond (x .travel) (x .t1 .slots) (s .loop .place) (omega arith) (found-false (c .before .ip-within .ensures) (c .if1 .taken))) ∙ s .loop .inv .1
 
 add-place : tie.Need-add-place Inv-loop μ-loop
 add-place c = search needs
@@ -69,7 +69,7 @@ loop-again c =
     let s = c .before .before .before .before in
     let n = sixteen (s .before) in
     let x = s .before .args in
-    (search needs, sym (passed (x .travel) (x .t1 .slots) (s .loop .place) (omega arith) (sym (c .before .ip-within .ensures) ∙ not-false (c .before .ip-within .result) (c .if1 .left))) ∙ s .loop .inv .1)
+    (search needs, sym (passed (x .travel) (x .t1 .slots) (s .loop .place) (omega arith) (found-true (c .before .ip-within .ensures) (c .if1 .left))) ∙ s .loop .inv .1)
 
 returns-2 : tie.Need-returns-2 Inv-loop μ-loop
 returns-2 c =

@@ -1,0 +1,66 @@
+-- Each return is the first part that is not sound.
+-- Assumes nothing.
+use borrow.Author.Needs.{needs}
+use mathlib.Core.Path.{sym}
+use Rattle.meaning.specs.Chosen.{found-false, found-true}
+use Rattle.board.proofs.StateRows.{by-settings, by-drive, by-ips, by-holder}
+use Rattle.board.proofs.whole.Node.is_sound.Statement.{statement}
+use Rattle.board.proofs.whole.Node.is_sound.Tie as tie
+
+in-range-requires : tie.Need-in-range-requires
+in-range-requires c κs = search needs
+
+returns : tie.Need-returns
+returns c =
+    let b = c .before in
+    let n = b .before .before .before .before .before .before .args .self in
+    sym (by-settings n (found-false (b .in-range .ensures) (c .if1 .taken)))
+
+within-requires : tie.Need-within-requires
+within-requires c κs = search needs
+
+returns-2 : tie.Need-returns-2
+returns-2 c =
+    let b = c .before in
+    let a = b .before .before in
+    let n = a .before .before .before .before .before .before .args .self in
+    sym (by-drive n
+    (found-true (a .in-range .ensures) (b .before .if1 .left))
+    (found-false (b .within .ensures) (c .if2 .taken)))
+
+within-requires-2 : tie.Need-within-requires-2
+within-requires-2 c κs = search needs
+
+returns-3 : tie.Need-returns-3
+returns-3 c =
+    let e = c .before in
+    let b = e .before .before in
+    let a = b .before .before in
+    let n = a .before .before .before .before .before .before .args .self in
+    sym (by-ips n
+    (found-true (a .in-range .ensures) (b .before .if1 .left))
+    (found-true (b .within .ensures) (e .before .if2 .left))
+    (found-false (e .within2 .ensures) (c .if3 .taken)))
+
+returns-4 : tie.Need-returns-4
+returns-4 c =
+    let e = c .before .before in
+    let b = e .before .before in
+    let a = b .before .before in
+    let n = a .before .before .before .before .before .before .args .self in
+    sym (by-holder n
+    (found-true (a .in-range .ensures) (b .before .if1 .left))
+    (found-true (b .within .ensures) (e .before .if2 .left))
+    (found-true (e .within2 .ensures) (c .before .if3 .left)))
+
+pub is-sound-spec : {M : Type 1} → statement M
+is-sound-spec =
+    tie.close
+    (tie.spec
+    in-range-requires
+    returns
+    within-requires
+    returns-2
+    within-requires-2
+    returns-3
+    returns-4)
