@@ -12,3 +12,4 @@ pub mod Register
 pub mod FilingLaws
 pub mod StrikingLaws
 pub mod Determined
+pub mod Full

@@ -1,7 +1,7 @@
 -- What the two loops over the register share.
 --     Turn xs      where a loop that copies xs stands: the first i elements of ws are those of xs. `next` is one turn on, `ended` what holds when i is 256. `Falls` is the order in which turns fall
---     apart, whole     a local array in memory, written whole, is its elements side by side, and back
--- `apart` and `whole` assume `Given`. All else assumes nothing.
+--     apart, back      a local array in memory, written whole, is its elements side by side, and back
+-- `apart` and `back` assume `Given`. All else assumes nothing.
 use mathlib.Core.Path.{_≡_, refl, sym, _∙_, subst}
 use Prim.Native.Nat.{ℕ, zero, suc, _+_, _-_, _<_, _≤_}
 use native.Mathlib.Numerals.{add-one}

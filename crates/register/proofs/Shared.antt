@@ -1,4 +1,4 @@
--- A `&κ mut [T]` that is lent as a `&κ′ [T]` for a lifetime κ′ of a call, and comes back as it was. It says nothing of the crate, and can be copied as it stands.
+-- A `&κ mut [T]` that is lent as a `&κ′ [T]` for a lifetime κ′ of a call, and comes back as it was.
 --     LentShared       what the holder keeps meanwhile: the lender's part at κ′, and its own borrow at κ, open, with both halves of its ghost variable
 --     lends-shared     own (the `&κ mut [T]` ((b, o), γ, ys)) ∗ [κ]_q  ⊢ ⇛ ∃ δ. own (the `&κ′ [T]` ((b, o), δ, ys)) ∗ LentShared
 --     shared-back      given `Room`:  [†κ′] ∗ LentShared  ⊢ ⇛ (own (the `&κ mut [T]` ((b, o), γ, ys)) ∗ [κ]_q)

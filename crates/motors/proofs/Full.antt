@@ -1,0 +1,65 @@
+-- Row 24 in the paper's words: a new motor while 256 are held, and never otherwise.
+-- Assumes nothing.
+use Prim.Native.Nat.{ℕ, _+_, _≤_, _<_}
+use native.Mathlib.Omega.{arith}
+use mathlib.Core.Path.{_≡_, refl, _∙_, sym, ap}
+use mathlib.Core.Logic.{_↔_}
+use mathlib.Core.Bool.{true}
+use mathlib.Core.List.{List}
+use mathlib.Core.Option.{Option, none, some}
+use lib.Dec.{leb}
+use lib.ListN.{length}
+use borrow.Author.Tests.{leb-true, leb-false, le-leb, lt-leb}
+use Rattle.refusal.specs.declared.Refusal.{Refusal}
+use Rattle.motors.specs.Motor.{zeros}
+use Rattle.motors.specs.Register.{held, soundOf, found}
+use Rattle.motors.specs.Report.{reportOf}
+use Rattle.motors.specs.Filing.{entered, enteredOf, filedOf}
+use Rattle.motors.specs.declared.answer.Answer.{Answer}
+use Rattle.motors.specs.declared.answer.Answer.the-variants.{Count, Refused}
+use Rattle.motors.specs.declared.answer.Next.{Next}
+use Rattle.motors.specs.declared.motor.Motor.{Motor}
+use Rattle.motors.specs.declared.report.Report.the-variants.{Seen}
+use Rattle.motors.proofs.Cases.{by-test}
+use Rattle.motors.proofs.InOrder.{sound-is}
+use Rattle.motors.proofs.Held.{more, entered-number}
+use Rattle.motors.proofs.Register.{length-held}
+use Rattle.motors.proofs.FilingRows.{as-reported}
+
+module _ (run : List Motor) (count : ℕ) (m : Motor) (ok : soundOf run count ≡ true) where
+  number : length (entered (held run count) m) ≡ more (found run count (m .line) (m .node)) + count
+  number =
+      entered-number m zeros (held run count) (sound-is run count ok .in-order)
+      ∙ ap (λ (n : ℕ). more (found run count (m .line) (m .node)) + n) (length-held run count ok)
+
+  taken : length (entered (held run count) m) ≤ 256 → enteredOf run count m .answer ≡ Count (length (entered (held run count) m))
+  unfolding enteredOf
+  taken h = rw (le-leb _ _ h)
+
+  full : 256 < length (entered (held run count) m) → enteredOf run count m .answer ≡ Refused Refusal.RegisterFull
+  unfolding enteredOf
+  full h = rw (lt-leb _ _ h)
+
+  new-and-full : (f : Option Motor) → found run count (m .line) (m .node) ≡ f → 256 < more f + count → (f ≡ none) × (count ≡ 256)
+  new-and-full none e h = (refl, omega (arith, sound-is run count ok .at-most-256))
+  new-and-full (some x) e h = absurd (omega (arith, sound-is run count ok .at-most-256))
+
+  never-both : (a : Answer) (n : ℕ) (r : Refusal) → a ≡ Count n → a ≡ Refused r → ⊥
+  never-both a n r p q = let z : _≡_ {A = ℕ} 0 1 = cc in omega arith
+
+  only-then : enteredOf run count m .answer ≡ Refused Refusal.RegisterFull → (found run count (m .line) (m .node) ≡ none) × (count ≡ 256)
+  only-then e =
+      by-test (leb (length (entered (held run count) m)) 256)
+      (λ t. absurd (never-both (enteredOf run count m .answer) (length (entered (held run count) m)) Refusal.RegisterFull (taken (leb-true _ _ t)) e))
+      (λ t. new-and-full (found run count (m .line) (m .node)) refl (omega (arith, number, leb-false (length (entered (held run count) m)) 256 t)))
+
+  then-too : (found run count (m .line) (m .node) ≡ none) × (count ≡ 256) → enteredOf run count m .answer ≡ Refused Refusal.RegisterFull
+  then-too s =
+      let one : more (found run count (m .line) (m .node)) ≡ 1 = ap more (s .0) in
+      full (omega (arith, number, one, s .1))
+
+  pub full-exactly-when : (line : ℕ) (b : List ℕ) → reportOf line b ≡ Seen m
+      → (filedOf run count line b .answer ≡ Refused Refusal.RegisterFull) ↔ ((found run count (m .line) (m .node) ≡ none) × (count ≡ 256))
+  full-exactly-when line b e =
+      let same = ap (λ (x : Next). x .answer) (as-reported run count line b (Seen m) ok e) in
+      (λ r. only-then (sym same ∙ r), λ s. same ∙ then-too s)
