@@ -1,8 +1,8 @@
 -- Each return is the first part that is not sound.
 -- Assumes nothing.
 use borrow.Author.Needs.{needs}
-use borrow.Author.Tests.{not-true, not-false}
-use mathlib.Core.Path.{_∙_, sym}
+use mathlib.Core.Path.{sym}
+use Rattle.meaning.specs.Chosen.{found-false, found-true}
 use Rattle.board.proofs.StateRows.{by-settings, by-drive, by-ips, by-holder}
 use Rattle.board.proofs.whole.Node.is_sound.Statement.{statement}
 use Rattle.board.proofs.whole.Node.is_sound.Tie as tie
@@ -14,7 +14,7 @@ returns : tie.Need-returns
 returns c =
     let b = c .before in
     let n = b .before .before .before .before .before .before .args .self in
-    sym (by-settings n (sym (b .in-range .ensures) ∙ not-true (b .in-range .result) (c .if1 .taken)))
+    sym (by-settings n (found-false (b .in-range .ensures) (c .if1 .taken)))
 
 within-requires : tie.Need-within-requires
 within-requires c κs = search needs
@@ -25,8 +25,8 @@ returns-2 c =
     let a = b .before .before in
     let n = a .before .before .before .before .before .before .args .self in
     sym (by-drive n
-    (sym (a .in-range .ensures) ∙ not-false (a .in-range .result) (b .before .if1 .left))
-    (sym (b .within .ensures) ∙ not-true (b .within .result) (c .if2 .taken)))
+    (found-true (a .in-range .ensures) (b .before .if1 .left))
+    (found-false (b .within .ensures) (c .if2 .taken)))
 
 within-requires-2 : tie.Need-within-requires-2
 within-requires-2 c κs = search needs
@@ -38,9 +38,9 @@ returns-3 c =
     let a = b .before .before in
     let n = a .before .before .before .before .before .before .args .self in
     sym (by-ips n
-    (sym (a .in-range .ensures) ∙ not-false (a .in-range .result) (b .before .if1 .left))
-    (sym (b .within .ensures) ∙ not-false (b .within .result) (e .before .if2 .left))
-    (sym (e .within2 .ensures) ∙ not-true (e .within2 .result) (c .if3 .taken)))
+    (found-true (a .in-range .ensures) (b .before .if1 .left))
+    (found-true (b .within .ensures) (e .before .if2 .left))
+    (found-false (e .within2 .ensures) (c .if3 .taken)))
 
 returns-4 : tie.Need-returns-4
 returns-4 c =
@@ -49,9 +49,9 @@ returns-4 c =
     let a = b .before .before in
     let n = a .before .before .before .before .before .before .args .self in
     sym (by-holder n
-    (sym (a .in-range .ensures) ∙ not-false (a .in-range .result) (b .before .if1 .left))
-    (sym (b .within .ensures) ∙ not-false (b .within .result) (e .before .if2 .left))
-    (sym (e .within2 .ensures) ∙ not-false (e .within2 .result) (c .before .if3 .left)))
+    (found-true (a .in-range .ensures) (b .before .if1 .left))
+    (found-true (b .within .ensures) (e .before .if2 .left))
+    (found-true (e .within2 .ensures) (c .before .if3 .left)))
 
 pub is-sound-spec : {M : Type 1} → statement M
 is-sound-spec =
