@@ -1,7 +1,8 @@
 -- A choice whose tests are known.
 -- Assumes nothing.
-use mathlib.Core.Path.{_≡_}
-use mathlib.Core.Bool.{Bool, true, false}
+use mathlib.Core.Path.{_≡_, _∙_, sym}
+use mathlib.Core.Bool.{Bool, true, false, not}
+use borrow.Author.Tests.{not-true, not-false}
 use Rattle.meaning.specs.Choice.{if_then_else_}
 
 module _ {A : Type 0} (test : Bool) (x y : A) where
@@ -14,3 +15,10 @@ module _ {A : Type 0} (test : Bool) (x y : A) where
 pub none-applies : {A : Type 0} (first second third : Bool) (x y z rest : A) → first ≡ false → second ≡ false → third ≡ false
     → (if first then x else if second then y else if third then z else rest) ≡ rest
 none-applies first second third x y z rest a b c = rw (a, b, c)
+
+-- A test as the code asked it, negated, and what its meaning is then.
+pub found-false : {asked test : Bool} → asked ≡ test → not asked ≡ true → test ≡ false
+found-false {asked} e n = sym e ∙ not-true asked n
+
+pub found-true : {asked test : Bool} → asked ≡ test → not asked ≡ false → test ≡ true
+found-true {asked} e n = sym e ∙ not-false asked n
