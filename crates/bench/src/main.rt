@@ -22,7 +22,7 @@ use numbers::Count;
 use numbers::first;
 use words::Words;
 
-// Rows are written out once so many bytes of them have gathered; behind that the longest answer has room.
+// Rows are written out once so many bytes of them have gathered, and before more is read; behind that the longest answer has room.
 const GATHERED: usize = 32768;
 
 // A loop has to end, and nothing says that the input does: the turns are counted down from a number that no run uses up.
@@ -79,7 +79,7 @@ fn main() {
                 }
             }
         }
-        at = write_out(&out, at, over);
+        at = write_out(&out, at, from >= have);
         if over {
             break;
         }
@@ -91,10 +91,10 @@ fn read_some(chunk: &mut [u8; 65536]) -> usize {
     io::count(got, chunk)
 }
 
-// The rows gathered, where they are many or the input is over.
-fn write_out(out: &[u8; 65536], at: usize, over: bool) -> usize {
+// The rows gathered, where they are many or all that was read is answered: whoever types a line sees its row.
+fn write_out(out: &[u8; 65536], at: usize, answered: bool) -> usize {
     if at < GATHERED {
-        if !over {
+        if !answered {
             return at;
         }
     }

@@ -32,7 +32,11 @@ pub record Member (source : Address) (groups : Groups) : Type 0 where
   pub not-empty : groupOf (getD groups index []) .0 ≢ 0x000000
   pub is-source : groupOf (getD groups index []) .0 ≡ source .0
 
--- An empty entry matches nothing, SOURCE 000000h least of all.
+-- An empty entry matches no SOURCE at all.
+pub empty-entry-matches-nothing : (entry : List ℕ) (source : Address) → groupOf entry .0 ≡ 0x000000 → isEntryOf entry source ≡ false
+empty-entry-matches-nothing entry source e = rw (eq-eqb (groupOf entry .0) 0x000000 e)
+
+-- SOURCE 000000h is no group of any table.
 pub no-group-is-000000h : (source : Address) (groups : Groups) → source .0 ≡ 0x000000 → ¬ Member source groups
 no-group-is-000000h source groups e m = m .not-empty (m .is-source ∙ e)
 

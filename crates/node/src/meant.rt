@@ -24,7 +24,7 @@ pub(crate) fn is_meant(settings: Settings, groups: [[u8; 3]; 16], request: Heade
     !is_reply(request.message)
 }
 
-// DEST is the NodeID, everyone, or a group of this node's.
+// DEST is the NodeID, everyone, or 000000h with a group of this node's as SOURCE.
 fn reaches(id: Address, groups: [[u8; 3]; 16], source: Address, destination: Address) -> bool
     ensures { λ r. ⌜ r ≡ reaches id groups source destination ⌝ }
 {
