@@ -1,4 +1,4 @@
--- For every public contract, any two outcomes that it allows are equal, what stands in lent memory included.
+-- For every public contract but those over the lent slice of motors, any two outcomes that it allows are equal, what stands in lent memory included.
 -- Assumes nothing.
 use Rattle.refusal.proofs.Determined as Refusal
 use Rattle.frame.proofs.Determined as Frame
