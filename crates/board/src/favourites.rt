@@ -95,20 +95,21 @@ impl Favourites {
         found
     }
 
-    // No IP lies beyond the travel.
+    // No IP lies beyond the travel; every one is looked at, so that several can be at once.
     pub fn within(self, travel: Pulse) -> bool
         ensures { λ r. ⌜ r ≡ ipsWithin travel (self .slots) ⌝ }
     {
+        let mut within = true;
         let mut place = 0;
         while place < 16 {
             let slot = self.slots[place];
             let ip = slot.ip;
             if !ip_within(ip, travel) {
-                return false;
+                within = false;
             }
             place += 1;
         }
-        true
+        within
     }
 }
 

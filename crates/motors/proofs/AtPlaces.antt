@@ -24,11 +24,11 @@ use Rattle.motors.proofs.InOrder.{InOrder, Sound, sound-is}
 use Rattle.motors.proofs.Held.{here, further, none-held, not-behind, past, again, anew}
 
 -- ---- the place of a motor among the records held
-place-past : (x : Motor) (l : List Motor) (m : Motor) → earlierOf x m ≡ true → placeOf (x ∷ l) m ≡ suc (placeOf l m)
+pub place-past : (x : Motor) (l : List Motor) (m : Motor) → earlierOf x m ≡ true → placeOf (x ∷ l) m ≡ suc (placeOf l m)
 unfolding placeOf
 place-past x l m e = rw e
 
-place-here : (x : Motor) (l : List Motor) (m : Motor) → earlierOf x m ≡ false → placeOf (x ∷ l) m ≡ 0
+pub place-here : (x : Motor) (l : List Motor) (m : Motor) → earlierOf x m ≡ false → placeOf (x ∷ l) m ≡ 0
 unfolding placeOf
 place-here x l m e = rw e
 

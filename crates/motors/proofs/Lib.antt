@@ -1,6 +1,5 @@
 pub mod ReportRows
 pub mod Edits
-pub mod Walks
 pub mod Cases
 pub mod Order
 pub mod InOrder
@@ -13,3 +12,6 @@ pub mod FilingLaws
 pub mod StrikingLaws
 pub mod Determined
 pub mod Full
+pub mod Moving
+pub mod Surveyed
+pub mod InPlace

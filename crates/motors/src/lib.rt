@@ -1,18 +1,26 @@
 // The register of motors by value: 256 places with a count, filing a frame that came in on a line, and striking a motor out.
 mod answer;
+mod edit;
 mod filing;
 mod motor;
 mod places;
 mod report;
-mod soundness;
 mod striking;
+mod survey;
 
 pub use answer::Answer;
 pub use answer::Next;
+pub use edit::Edit;
+pub use edit::subject;
+pub use edit::to_file;
+pub use edit::to_strike;
 pub use filing::file;
 pub use motor::Motor;
 pub use motor::follows;
 pub use motor::is_reading;
 pub use motor::unread;
-pub use soundness::sound;
+pub use places::sound;
+pub use report::Report;
+pub use report::read_report;
 pub use striking::strike;
+pub use survey::Survey;

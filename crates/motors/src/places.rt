@@ -1,36 +1,42 @@
-// Places of the register: where a motor stands or would stand, and making and closing a gap there.
+// The places by value: one pass over them, and records that move by one.
 use crate::motor::Motor;
-use crate::motor::earlier;
 use crate::motor::unread;
+use crate::survey::Survey;
 ghost use mathlib.Core.Path.{_≡_};
-ghost use Prim.Native.Nat.{_<_, _≤_};
-ghost use lib.ListN.{take};
-ghost use Rattle.motors.specs.Places.{placeOf, inserted, removed};
+ghost use Rattle.motors.specs.Places.{movedUp, movedDown};
+ghost use Rattle.motors.specs.Register.{soundOf};
+ghost use Rattle.motors.specs.Survey.{surveyOf};
 
-// The first place whose record is not earlier than the motor, or the count.
-pub(crate) fn place(motors: [Motor; 256], count: usize, motor: Motor) -> usize
-    requires { ⌜ count ≤ 256 ⌝ }
-    ensures { λ r. ⌜ r ≡ placeOf (take count motors) motor ⌝ }
+pub(crate) fn survey(motors: [Motor; 256], count: usize, motor: Motor) -> Survey
+    ensures { λ r. ⌜ r ≡ surveyOf motors count motor ⌝ }
 {
+    let mut found = Survey::begun(256, count);
     let mut i: usize = 0;
-    while i < count {
-        if !earlier(motors[i], motor) {
-            return i;
-        }
+    while i < 256 {
+        found = found.past(motor, motors[i], i, count);
         i += 1;
     }
-    i
+    found
 }
 
-// The motor at a place; the records from there on move up by one.
-pub(crate) fn insert(motors: [Motor; 256], place: usize, motor: Motor) -> [Motor; 256]
-    requires { ⌜ place < 256 ⌝ }
-    ensures { λ r. ⌜ r ≡ inserted motors place motor ⌝ }
+// Row 19: whether 256 places and a count are a register.
+pub fn sound(motors: [Motor; 256], count: usize) -> bool
+    ensures { λ r. ⌜ r ≡ soundOf motors count ⌝ }
+{
+    survey(motors, count, unread(0, 0)).sound
+}
+
+// The records from one place to another move up, and a motor takes the first place.
+pub(crate) fn move_up(motors: [Motor; 256], from: usize, last: usize, motor: Motor) -> [Motor; 256]
+    ensures { λ r. ⌜ r ≡ movedUp motors from last motor ⌝ }
 {
     let mut all = motors;
+    if last >= 256 {
+        return all;
+    }
     let mut carried = motor;
-    let mut i = place;
-    while i < 256 {
+    let mut i = from;
+    while i <= last {
         let next = all[i];
         all[i] = carried;
         carried = next;
@@ -39,18 +45,26 @@ pub(crate) fn insert(motors: [Motor; 256], place: usize, motor: Motor) -> [Motor
     all
 }
 
-// A place given back; the records behind it move down by one.
-pub(crate) fn remove(motors: [Motor; 256], place: usize) -> [Motor; 256]
-    requires { ⌜ place < 256 ⌝ }
-    ensures { λ r. ⌜ r ≡ removed motors place ⌝ }
+// The records from one place to another move down, and a motor takes the last place.
+pub(crate) fn move_down(
+    motors: [Motor; 256],
+    from: usize,
+    last: usize,
+    motor: Motor,
+) -> [Motor; 256]
+    ensures { λ r. ⌜ r ≡ movedDown motors from last motor ⌝ }
 {
     let mut all = motors;
-    let mut i = place;
-    while i < 255 {
-        all[i] = all[i + 1];
-        i += 1;
+    if last >= 256 {
+        return all;
     }
-    let empty = unread(0, 0);
-    all[255] = empty;
+    let mut carried = motor;
+    let mut i = last + 1;
+    while i > from {
+        i -= 1;
+        let next = all[i];
+        all[i] = carried;
+        carried = next;
+    }
     all
 }

@@ -24,7 +24,7 @@ const NODE: u8 = 0x60;
 const POSITION: u8 = 0x0D;
 
 // Rows 1 to 6, then 20 to 23.
-pub(crate) fn read_report(line: u8, bundle: &[u8]) -> Report
+pub fn read_report(line: u8, bundle: &[u8]) -> Report
     ensures { λ r. ⌜ r ≡ reportOf line (now (bundle .entry)) ⌝ }
 {
     let reading = frame::read(bundle);

@@ -1,14 +1,10 @@
 // Striking a motor out.
-use crate::answer::Answer;
 use crate::answer::Next;
+use crate::edit::to_strike;
 use crate::motor::Motor;
-use crate::motor::is_line;
-use crate::motor::is_motor;
 use crate::motor::unread;
-use crate::places::place;
-use crate::places::remove;
-use crate::soundness::sound;
-use refusal::Refusal;
+use crate::places::move_down;
+use crate::places::survey;
 ghost use mathlib.Core.Path.{_≡_};
 ghost use Rattle.motors.specs.Filing.{struckOf};
 
@@ -16,30 +12,12 @@ ghost use Rattle.motors.specs.Filing.{struckOf};
 pub fn strike(motors: [Motor; 256], count: usize, line: u8, node: u32) -> Next
     ensures { λ r. ⌜ r ≡ struckOf motors count line node ⌝ }
 {
-    if !sound(motors, count) {
-        return Next {
-            motors: motors,
-            answer: Answer::Refused(Refusal::BrokenRegister),
-        };
-    }
-    if !is_line(line) {
-        return Next {
-            motors: motors,
-            answer: Answer::Refused(Refusal::NoSuchLine),
-        };
-    }
-    let at = place(motors, count, unread(line, node));
-    if at < count {
-        let standing = motors[at];
-        if is_motor(standing, line, node) {
-            return Next {
-                motors: remove(motors, at),
-                answer: Answer::Count(count - 1),
-            };
-        }
-    }
+    let found = survey(motors, count, unread(line, node));
+    let edit = to_strike(found, count, line);
+    let motor = edit.motor;
+    let answer = edit.answer;
     Next {
-        motors: motors,
-        answer: Answer::Refused(Refusal::NotHeld),
+        motors: move_down(motors, edit.from, edit.last, motor),
+        answer,
     }
 }

@@ -1,14 +1,16 @@
--- What the slots from here on say is what all of them say.
+-- What was seen and what the slots from here on say is what all of them say.
 -- Assumes nothing.
 use borrow.Author.Needs.{needs}
 use mathlib.Core.Path.{_≡_, refl, _∙_, sym}
-use mathlib.Core.Bool.{true, false}
+use mathlib.Core.Bool.{Bool, true, false}
 use mathlib.Core.List.{List}
+use mathlib.Core.Logic.{inl, inr}
 use Prim.Native.Nat.{ℕ, _≤_, _<_, _-_, _+_}
 use native.Mathlib.Omega.{arith}
 use native.Mathlib.Numerals.{add-one}
 use lib.ListN.{length, getD, drop, length-map, drop-of-length-le}
 use lib.Seq.{drop-cons}
+use Rattle.meaning.specs.Choice.{if_then_else_}
 use Rattle.meaning.specs.Chosen.{found-false, found-true}
 use Rattle.travel.specs.declared.Pulse.{Pulse}
 use Rattle.board.specs.declared.favourites.Ip.the-variants.{Unset}
@@ -30,11 +32,20 @@ module _ (travel : Pulse) (l : List Slot) (i : ℕ) where
   unfolding ipsWithin
   all-passed h = rw drop-of-length-le
 
+never : (t : Bool) → (if t then false else false) ≡ false
+never true = refl
+never false = refl
+
+itself : (t : Bool) → (if t then true else false) ≡ t
+itself true = refl
+itself false = refl
+
 abbrev Inv-loop : tie.InvT-loop
-Inv-loop travel self place₀ place = (place ≤ 16) × (ipsWithin travel (drop place (self .slots)) ≡ ipsWithin travel (self .slots))
+Inv-loop travel self within₀ place₀ within place =
+    (place ≤ 16) × ((if within then ipsWithin travel (drop place (self .slots)) else false) ≡ ipsWithin travel (self .slots))
 
 abbrev μ-loop : tie.MeasureT-loop
-μ-loop travel self place₀ place = 16 - place
+μ-loop travel self within₀ place₀ within place = 16 - place
 
 sixteen : (c : tie.Start Inv-loop μ-loop) → length (c .args .t1 .slots) ≡ 16
 sixteen c = simp length-map at (c .good .0 .1 .1 .0 .1 .0 .1)
@@ -51,13 +62,6 @@ element-copy-out-slot c = search needs
 ip-within-requires : tie.Need-ip-within-requires Inv-loop μ-loop
 ip-within-requires c κs = search needs
 
-returns : tie.Need-returns Inv-loop μ-loop
-returns c =
-    let s = c .before .before .before .before in
-    let n = sixteen (s .before) in
-    let x = s .before .args in
-    sym (beyond (x .travel) (x .t1 .slots) (s .loop .place) (omega arith) (found-false (c .before .ip-within .ensures) (c .if1 .taken))) ∙ s .loop .inv .1
-
 add-place : tie.Need-add-place Inv-loop μ-loop
 add-place c = search needs
 
@@ -69,14 +73,25 @@ loop-again c =
     let s = c .before .before .before .before in
     let n = sixteen (s .before) in
     let x = s .before .args in
-    (search needs, sym (passed (x .travel) (x .t1 .slots) (s .loop .place) (omega arith) (found-true (c .before .ip-within .ensures) (c .if1 .left))) ∙ s .loop .inv .1)
+    elim (c .if1 .came) [
+      | inl t ↦ (
+        search needs,
+        rw (t .1)
+        (sym (never (s .loop .within))
+        ∙ rw (beyond (x .travel) (x .t1 .slots) (s .loop .place) (omega arith) (found-false (c .before .ip-within .ensures) (t .0 .taken))) at (s .loop .inv .1)),
+      )
+      | inr f ↦ (
+        search needs,
+        rw (f .1, ← passed (x .travel) (x .t1 .slots) (s .loop .place) (omega arith) (found-true (c .before .ip-within .ensures) (f .0 .left))) (s .loop .inv .1),
+      )
+    ]
 
-returns-2 : tie.Need-returns-2 Inv-loop μ-loop
-returns-2 c =
+returns : tie.Need-returns Inv-loop μ-loop
+returns c =
     let s = c .before in
     let n = sixteen (s .before) in
     let x = s .before .args in
-    sym (all-passed (x .travel) (x .t1 .slots) (s .loop .place) (omega arith)) ∙ s .loop .inv .1
+    sym (itself (s .loop .within)) ∙ rw (all-passed (x .travel) (x .t1 .slots) (s .loop .place) (omega arith)) at (s .loop .inv .1)
 
 pub within-spec : {M : Type 1} → statement M
 within-spec =
@@ -88,8 +103,7 @@ within-spec =
     mul-slot
     element-copy-out-slot
     ip-within-requires
-    returns
     add-place
     loop-less
     loop-again
-    returns-2)
+    returns)

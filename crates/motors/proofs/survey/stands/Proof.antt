@@ -1,8 +1,8 @@
 -- A record or zeros.
 -- Assumes nothing.
 use borrow.Author.Needs.{needs}
-use Rattle.motors.proofs.soundness.stands.Statement.{statement}
-use Rattle.motors.proofs.soundness.stands.Tie as tie
+use Rattle.motors.proofs.survey.stands.Statement.{statement}
+use Rattle.motors.proofs.survey.stands.Tie as tie
 
 follows-requires : tie.Need-follows-requires
 follows-requires c κs = search needs

@@ -1,0 +1,46 @@
+-- Row 19, then what the frame reports.
+-- Assumes nothing.
+use borrow.Author.Needs.{needs}
+use Rattle.motors.specs.Edit.{toFile}
+use Rattle.motors.proofs.edit.to_file.Statement.{statement}
+use Rattle.motors.proofs.edit.to_file.Tie as tie
+
+leaving-requires : tie.Need-leaving-requires
+leaving-requires c κs = search needs
+
+returns : tie.Need-returns
+unfolding toFile
+returns c = rw (c .before .if1 .taken) (c .leaving .ensures)
+
+enum-known-report : tie.Need-enum-known-report
+enum-known-report c = search needs
+
+to-enter-requires : tie.Need-to-enter-requires
+to-enter-requires c κs = search needs
+
+enum-known-report-2 : tie.Need-enum-known-report-2
+enum-known-report-2 c = search needs
+
+leaving-requires-2 : tie.Need-leaving-requires-2
+leaving-requires-2 c κs = search needs
+
+returns-2 : tie.Need-returns-2
+unfolding toFile
+returns-2 c = rw (c .before .before .before .before .if1 .left, c .before .before .report .given .1) (c .to-enter .ensures)
+
+returns-3 : tie.Need-returns-3
+unfolding toFile
+returns-3 c = rw (c .before .before .before .before .if1 .left, c .before .before .report2 .given .1) (c .leaving2 .ensures)
+
+pub to-file-spec : {M : Type 1} → statement M
+to-file-spec =
+    tie.close
+    (tie.spec
+    leaving-requires
+    returns
+    enum-known-report
+    to-enter-requires
+    enum-known-report-2
+    leaving-requires-2
+    returns-2
+    returns-3)
