@@ -28,7 +28,7 @@ const GATHERED: usize = 32768;
 // A loop has to end, and nothing says that the input does: the turns are counted down from a number that no run uses up.
 fn main() {
     let mut desk = desk::empty();
-    let mut groups = [[0u8; 3]; 16];
+    let mut groups = node::no_groups();
     let mut book = book::empty();
     let mut reader = Reader::fresh();
     let mut chunk = io::large_buffer();
@@ -63,7 +63,7 @@ fn main() {
                     let table = node::apply(groups, change);
                     groups = table;
                     if shown.fresh {
-                        groups = [[0u8; 3]; 16];
+                        groups = node::no_groups();
                     }
                     at = shown.at;
                 }

@@ -4,13 +4,17 @@ use Prim.Native.Nat.{ℕ}
 use mathlib.Core.Bool.{Bool, true, false}
 use mathlib.Core.List.{List, [], _∷_}
 use lib.Dec.{eqb, ltb}
-use lib.ListN.{getD, set}
+use lib.ListN.{getD, set, replicate}
 use Rattle.meaning.specs.Choice.{if_then_else_}
 use Rattle.frame.specs.Address.{addressOf}
 use Rattle.frame.specs.declared.address.Address.{Address}
 use Rattle.turn.specs.Turn.{Groups}
 use Rattle.turn.specs.declared.turn.Change.{Change}
 use Rattle.turn.specs.declared.turn.Change.the-variants.{Keep, Put}
+
+-- Sixteen empty entries.
+abbrev pub noGroups : Groups
+noGroups = replicate 16 (0 ∷ 0 ∷ 0 ∷ [])
 
 abbrev pub groupOf : List ℕ → Address
 groupOf entry = addressOf (getD entry 0 0) (getD entry 1 0) (getD entry 2 0)

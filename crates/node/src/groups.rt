@@ -2,7 +2,14 @@
 use frame::Address;
 use turn::Change;
 ghost use mathlib.Core.Path.{_≡_};
-ghost use Rattle.node.specs.Groups.{applied, inTable, isEntryOf};
+ghost use Rattle.node.specs.Groups.{noGroups, applied, inTable, isEntryOf};
+
+// The table of a board that was just set up: every entry is empty.
+pub fn no_groups() -> [[u8; 3]; 16]
+    ensures { λ r. ⌜ r ≡ noGroups ⌝ }
+{
+    [[0u8; 3]; 16]
+}
 
 // The table after a turn: one entry is changed by 51h.
 pub fn apply(groups: [[u8; 3]; 16], change: Change) -> [[u8; 3]; 16]

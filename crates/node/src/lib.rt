@@ -5,3 +5,4 @@ mod meant;
 
 pub use frames::on_frame;
 pub use groups::apply;
+pub use groups::no_groups;

@@ -77,8 +77,8 @@ loop-again c =
       | inl t ↦ (
         search needs,
         rw (t .1)
-        (sym (never (s .loop .within))
-        ∙ rw (beyond (x .travel) (x .t1 .slots) (s .loop .place) (omega arith) (found-false (c .before .ip-within .ensures) (t .0 .taken))) at (s .loop .inv .1)),
+            (sym (never (s .loop .within))
+            ∙ rw (beyond (x .travel) (x .t1 .slots) (s .loop .place) (omega arith) (found-false (c .before .ip-within .ensures) (t .0 .taken))) at (s .loop .inv .1)),
       )
       | inr f ↦ (
         search needs,
