@@ -29,13 +29,15 @@ wholeFile =
     0x01 ∷ 0x4D ∷ 0x01 ∷ 0x21 ∷ 0xFF ∷
     0x00 ∷ 0x00 ∷ 0x00 ∷ 0x00 ∷ 0x00 ∷ []
 
-pub record Figures : Type 0 where
-  pub p11 : formOf twoMotors ≡ wholeFile
-  pub p11-read : readOf (filled []) wholeFile ≡ keeping twoMotors
-  pub p11-sound : soundOf (filled twoMotors) 2 ≡ true
-  pub p11-line-0 : found (filled twoMotors) 2 0 node ≡ some (withReading 0 node 333 33 0xFF)
-  pub p11-line-1 : found (filled twoMotors) 2 1 node ≡ some (unread 1 node)
+-- The whole file, written and read, and both motors found under line and NodeID.
+abbrev pub P11 : Type 0
+P11 =
+    (formOf twoMotors ≡ wholeFile)
+    × (readOf (filled []) wholeFile ≡ keeping twoMotors)
+    × (soundOf (filled twoMotors) 2 ≡ true)
+    × (found (filled twoMotors) 2 0 node ≡ some (withReading 0 node 333 33 0xFF))
+    × (found (filled twoMotors) 2 1 node ≡ some (unread 1 node))
 
-pub figures : Figures
+pub p11 : P11
 unfolding formOf contentsOf bodiesOf entryRight contentsRight bodyRight bodiesRight motorsOf readOf filled soundFrom soundOf foundIn earlierOf isMotor isNode isReading unreadPart rightOf blankOf followsOf
-figures = record { p11 = refl; p11-read = refl; p11-sound = refl; p11-line-0 = refl; p11-line-1 = refl }
+p11 = (refl, refl, refl, refl, refl)

@@ -31,15 +31,15 @@ awning =
 abbrev no-groups : Groups
 no-groups = replicate 16 (0 ∷ 0 ∷ 0 ∷ [])
 
-pub record Figures : Type 0 where
-  pub p4 :
-      turnOf awning no-groups getPosition
-      ≡ replied awning Keep
-      (reply 16 (
-      (0xF2 ∷ 0xEF ∷ 0xDF ∷ 0xFC ∷ 0xFB ∷ 0xFA ∷ 0xFF ∷ 0x00 ∷ 0x00 ∷ 0xB2 ∷ 0xFE ∷ 0xDE ∷ 0x00 ∷ 0x00 ∷ 0x09 ∷ 0x3E ∷ [])
-      ++ replicate 15 0
-      ))
+abbrev pub P4 : Type 0
+P4 =
+    turnOf awning no-groups getPosition
+    ≡ replied awning Keep
+    (reply 16 (
+    (0xF2 ∷ 0xEF ∷ 0xDF ∷ 0xFC ∷ 0xFB ∷ 0xFA ∷ 0xFF ∷ 0x00 ∷ 0x00 ∷ 0xB2 ∷ 0xFE ∷ 0xDE ∷ 0x00 ∷ 0x00 ∷ 0x09 ∷ 0x3E ∷ [])
+    ++ replicate 15 0
+    ))
 
-pub figures : Figures
+pub p4 : P4
 unfolding readingOf writingOf percentOfPulse firstAt ipsWithin replyTo outcomeOf positionRow inTable meant turnOf
-figures = record { p4 = refl }
+p4 = refl
