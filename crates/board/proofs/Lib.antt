@@ -5,3 +5,4 @@ pub mod Sound
 pub mod PowerUp
 pub mod Refusals
 pub mod Determined
+pub mod Ranges

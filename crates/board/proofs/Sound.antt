@@ -4,7 +4,6 @@ use Prim.Native.Nat.{ℕ, _≤_}
 use native.Mathlib.Omega.{arith}
 use mathlib.Core.Path.{_≡_, refl}
 use mathlib.Core.Bool.{true, false, not, _&&_}
-use mathlib.Core.Logic.{_↔_}
 use borrow.Author.Tests.{le-leb, leb-true, ltb-false}
 use lib.Dec.{leb, ltb}
 use Rattle.meaning.specs.Choice.{either}
@@ -52,9 +51,6 @@ module _ (n : Node) where
       (and-so (driveWithin t (n .drive)) (ipsWithin t (n .favourites .slots) && leb (n .lock .holder .0) 0xFFFFFF) (p .drive-within)
       (and-so (ipsWithin t (n .favourites .slots)) (leb (n .lock .holder .0) 0xFFFFFF) (p .ips-within)
       (le-leb (n .lock .holder .0) 0xFFFFFF (p .holder-is-an-address))))
-
-  pub sound-exactly-when : Sound n ↔ (sound n ≡ true)
-  sound-exactly-when = (sound-of, parts-of)
 
 -- A part replaced by a sound one.
 module _ (n : Node) (s : sound n ≡ true) where

@@ -6,8 +6,8 @@ use mathlib.Core.Path.{_≡_, refl, _∙_, sym, ap, ap₂, subst}
 use mathlib.Core.Bool.{true, not}
 use mathlib.Core.List.{List, [], _∷_, _++_, append-nil}
 use lib.Dec.{ltb, eqb}
-use lib.ListN.{length, getD, drop, length-append, length-drop, drop-of-length-le}
-use lib.Seq.{drop-at, drop-drop}
+use lib.ListN.{length, getD, take, drop, length-append, length-drop, drop-of-length-le}
+use lib.Seq.{take-at, drop-at, drop-drop}
 use borrow.Author.Tests.{ltb-false, eqb-true, not-false}
 use Rattle.meaning.specs.Bytes.{Bytes, drop-bytes}
 use Rattle.meaning.specs.Choice.{either}
@@ -60,7 +60,7 @@ module _ (l : List Motor) where
   contents-of-form = refl
 
 -- ---- read of written is the register
-abbrev next : List Motor → ℕ → Next
+abbrev pub next : List Motor → ℕ → Next
 next motors n = record { motors = motors; answer = answer.Count n }
 
 module _ (run : List Motor) (count : ℕ) (ok : soundOf run count ≡ true) (pulses : TwoBytePulses (held run count)) where
@@ -214,3 +214,15 @@ module _ (run : List Motor) (count : ℕ) (buffer : List ℕ) (n : ℕ) (e : wri
   no-byte-behind-the-form-is-changed =
       ap (drop (length (formOf (held run count)))) the-form-stands-at-the-start
       ∙ drop-at (formOf (held run count)) (drop (length (formOf (held run count))) buffer) (length (formOf (held run count))) refl
+
+-- A register written into a buffer and read from there is the register again.
+pub a-register-written-and-read-again-is-the-same : (run : List Motor) (count : ℕ) → soundOf run count ≡ true → TwoBytePulses (held run count)
+    → (buffer : List ℕ) → formLength count ≤ length buffer → (other : List Motor) → length other ≡ 256
+    → readOf other (take (formLength count) (bufferAfter run count buffer)) ≡ next run count
+a-register-written-and-read-again-is-the-same run count ok pulses buffer room other full =
+    let form = formOf (held run count) in
+    let size : length form ≡ formLength count = length-form (held run count) ∙ ap formLength (length-held run count ok) in
+    ap (λ (w : List ℕ). readOf other (take (formLength count) w))
+    (the-form-stands-at-the-start run count buffer (formLength count) (written run count (length buffer) ok room))
+    ∙ ap (readOf other) (take-at form (drop (length form) buffer) (formLength count) size)
+    ∙ read-of-written-is-the-register run count ok pulses other full

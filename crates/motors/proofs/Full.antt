@@ -1,10 +1,10 @@
--- Row 24 in the paper's words: a new motor while 256 are held, and never otherwise.
+-- Row 24 in the paper's words: a new motor while 256 are held, and never otherwise; any other report is taken.
 -- Assumes nothing.
 use Prim.Native.Nat.{ℕ, _+_, _≤_, _<_}
 use native.Mathlib.Omega.{arith}
 use mathlib.Core.Path.{_≡_, refl, _∙_, sym, ap}
-use mathlib.Core.Logic.{_↔_}
-use mathlib.Core.Bool.{true}
+use mathlib.Core.Logic.{_↔_, _⊎_, inl, inr}
+use mathlib.Core.Bool.{true, false≢true}
 use mathlib.Core.List.{List}
 use mathlib.Core.Option.{Option, none, some}
 use lib.Dec.{leb}
@@ -14,7 +14,7 @@ use Rattle.refusal.specs.declared.Refusal.{Refusal}
 use Rattle.motors.specs.Motor.{zeros}
 use Rattle.motors.specs.Register.{held, soundOf, found}
 use Rattle.motors.specs.Report.{reportOf}
-use Rattle.motors.specs.Filing.{entered, enteredOf, filedOf}
+use Rattle.motors.specs.Filing.{entered, enteredOf, filedOf, isSome}
 use Rattle.motors.specs.declared.answer.Answer.{Answer}
 use Rattle.motors.specs.declared.answer.Answer.the-variants.{Count, Refused}
 use Rattle.motors.specs.declared.answer.Next.{Next}
@@ -57,6 +57,29 @@ module _ (run : List Motor) (count : ℕ) (m : Motor) (ok : soundOf run count �
   then-too s =
       let one : more (found run count (m .line) (m .node)) ≡ 1 = ap more (s .0) in
       full (omega (arith, number, one, s .1))
+
+  -- A report is taken exactly when its motor is held already, or there is a place for one more.
+  abbrev HasAPlace : Type 0
+  HasAPlace = (isSome (found run count (m .line) (m .node)) ≡ true) ⊎ (count < 256)
+
+  place-for : (f : Option Motor) → more f + count ≤ 256 → (isSome f ≡ true) ⊎ (count < 256)
+  place-for none h = inr (omega arith)
+  place-for (some x) h = inl refl
+
+  few-enough : (f : Option Motor) → (isSome f ≡ true) ⊎ (count < 256) → more f + count ≤ 256
+  few-enough none (inl e) = absurd (false≢true e)
+  few-enough none (inr h) = omega arith
+  few-enough (some x) h = omega (arith, sound-is run count ok .at-most-256)
+
+  with-a-place : ((n : ℕ) × (enteredOf run count m .answer ≡ Count n)) → HasAPlace
+  with-a-place (n, e) =
+      by-test (leb (length (entered (held run count) m)) 256)
+      (λ t. place-for (found run count (m .line) (m .node)) (omega (arith, number, leb-true (length (entered (held run count) m)) 256 t)))
+      (λ t. absurd (never-both (enteredOf run count m .answer) n Refusal.RegisterFull e (full (leb-false _ _ t))))
+
+  pub taken-exactly-when : HasAPlace ↔ ((n : ℕ) × (enteredOf run count m .answer ≡ Count n))
+  taken-exactly-when =
+      (λ h. (length (entered (held run count) m), taken (omega (arith, number, few-enough (found run count (m .line) (m .node)) h))), with-a-place)
 
   pub full-exactly-when : (line : ℕ) (b : List ℕ) → reportOf line b ≡ Seen m
       → (filedOf run count line b .answer ≡ Refused Refusal.RegisterFull) ↔ ((found run count (m .line) (m .node) ≡ none) × (count ≡ 256))

@@ -2,7 +2,8 @@
 -- Assumes nothing.
 use Prim.Native.Nat.{ℕ, zero, suc, _-_, _≤_}
 use native.Mathlib.Omega.{arith}
-use mathlib.Core.Path.{_≡_, refl, _∙_, sym, ap}
+use mathlib.Core.Path.{_≡_, refl, _∙_, sym, ap, ap₂}
+use mathlib.Core.Logic.{_↔_}
 use mathlib.Core.Bool.{true}
 use mathlib.Core.List.{List, [], _∷_, _++_}
 use lib.Dec.{eqb, leb, ltb}
@@ -100,3 +101,13 @@ told-filled l o = so-told zeros l (256 - length l) o
 pub is-sound : (l : List Motor) → length l ≤ 256 → InOrder zeros l → soundOf (filled l) (length l) ≡ true
 unfolding soundOf
 is-sound l h o = rw (eq-eqb _ _ (length-filled l h), le-leb _ _ h) (told-filled l o)
+
+-- Row 19 is its facts.
+sound-so : (run : List Motor) (count : ℕ) → Sound run count → soundOf run count ≡ true
+sound-so run count s =
+    let l = take count run in
+    let n : length l ≡ count = simp length-take (omega (arith, s .of-256-places, s .at-most-256)) in
+    ap₂ soundOf (s .zeros-behind) (sym n) ∙ is-sound l (omega (arith, n, s .at-most-256)) (s .in-order)
+
+pub sound-exactly-when : (run : List Motor) (count : ℕ) → Sound run count ↔ (soundOf run count ≡ true)
+sound-exactly-when run count = (sound-so run count, sound-is run count)

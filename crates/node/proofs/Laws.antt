@@ -3,10 +3,9 @@
 use Prim.Native.Nat.{ℕ, _≤_}
 use native.Mathlib.Omega.{arith}
 use mathlib.Core.Path.{_≡_, refl, _∙_}
-use mathlib.Core.Bool.{Bool, true, false, _&&_}
+use mathlib.Core.Logic.{_≢_}
+use mathlib.Core.Bool.{Bool, true, false}
 use mathlib.Core.List.{List}
-use borrow.Author.Tests.{leb-true}
-use lib.Dec.{leb}
 use Rattle.meaning.specs.Choice.{either}
 use Rattle.refusal.specs.declared.Refusal.{Refusal}
 use Rattle.frame.specs.Layout.{message, headerOf, dataOf, dataCount}
@@ -17,9 +16,9 @@ use Rattle.board.specs.Node.{sound}
 use Rattle.board.specs.Settings.{inRange}
 use Rattle.board.specs.declared.whole.Node.{Node}
 use Rattle.board.specs.declared.settings.Settings.{Settings}
-use Rattle.board.proofs.Within.{both}
+use Rattle.board.proofs.Ranges.{settings-exactly-when}
 use Rattle.board.proofs.Sound.{parts-of}
-use Rattle.turn.specs.declared.turn.Answer.the-variants.{Refused}
+use Rattle.turn.specs.declared.turn.Answer.the-variants.{Replied, Refused}
 use Rattle.turn.specs.declared.turn.Change.{Change}
 use Rattle.turn.specs.declared.turn.Change.the-variants.{Keep}
 use Rattle.turn.specs.declared.turn.Turn.{Turn}
@@ -74,15 +73,19 @@ silence-keeps-the-table g = refl
 -- Neither node nor table is changed, and nothing is said.
 pub record Untouched (n : Node) (t : Turn) : Type 0 where
   pub unchanged : Unchanged n t
+  pub not-answered : t .answer ≢ Replied
   pub nothing-said : t .reply ≡ noReply
+
+pub zero-is-one : _≡_ {A = ℕ} 0 1 → ⊥
+zero-is-one z = omega arith
 
 module _ (n : Node) (g : Groups) (b : List ℕ) where
   -- A reply message is never answered, whatever its ACK bit, and changes nothing.
   pub a-reply-message-is-never-answered : IsOneOf (message b) replies → Untouched n (turnOf n g b)
   a-reply-message-is-never-answered i =
       every-turn n g b (Untouched n)
-      (λ q. record { unchanged = record { node-kept = refl; table-kept = refl }; nothing-said = refl })
-      (record { unchanged = record { node-kept = refl; table-kept = refl }; nothing-said = refl })
+      (λ q. record { unchanged = record { node-kept = refl; table-kept = refl }; not-answered = λ e. zero-is-one (cc); nothing-said = refl })
+      (record { unchanged = record { node-kept = refl; table-kept = refl }; not-answered = λ e. zero-is-one (cc); nothing-said = refl })
       (λ s f m. absurd (the-four-conditions (n .settings) g (headerOf b) m .no-reply i))
 
   -- A 7Fh is not answered with a 7Fh, so that two nodes never chatter.
@@ -102,9 +105,6 @@ module _ (n : Node) (g : Groups) (b : List ℕ) where
   -- A refusal by a number returns the node, keeps the table and gives no reply.
   abbrev Harmless : Turn → Type 0
   Harmless t = (r : Refusal) → t .answer ≡ Refused r → t ≡ refusedBy n r
-
-  zero-is-one : _≡_ {A = ℕ} 0 1 → ⊥
-  zero-is-one z = omega arith
 
   answered-is-not-refused : (h : Header) (o : Outcome) → Harmless (answered n h o)
   answered-is-not-refused h (acts after change) =
@@ -130,11 +130,8 @@ asker-type b = omega arith
 -- An own address and type that are in range fit a frame.
 ranges : (c : Settings) → inRange c ≡ true → (c .id .0 ≤ 0xFFFFFF) × (c .kind ≤ 15)
 ranges c e =
-    let a = both (leb 0x000001 (c .id .0)) (leb (c .id .0) 0xFFFEFF && (leb 1 (c .kind) && (leb (c .kind) 15 && leb 100 (c .travel .0)))) e in
-    let d = both (leb (c .id .0) 0xFFFEFF) (leb 1 (c .kind) && (leb (c .kind) 15 && leb 100 (c .travel .0))) (a .1) in
-    let k = both (leb 1 (c .kind)) (leb (c .kind) 15 && leb 100 (c .travel .0)) (d .1) in
-    let l = both (leb (c .kind) 15) (leb 100 (c .travel .0)) (k .1) in
-    (omega (arith, leb-true (c .id .0) 0xFFFEFF (d .0)), leb-true (c .kind) 15 (l .0))
+    let r = settings-exactly-when c .1 e in
+    (omega (arith, r .NodeID-to-FFFEFFh), r .type-to-15)
 
 module _ (n : Node) (g : Groups) (b : List ℕ) (s : sound n ≡ true) where
   -- The board never refuses its own state: what a sound node becomes is sound.
@@ -156,7 +153,7 @@ module _ (n : Node) (g : Groups) (b : List ℕ) (s : sound n ≡ true) where
       (record { still-sound = s; settings-kept = refl; entry-in-table = tt })
       (λ t f m. answered-keeps (headerOf b) (outcomeOf n g (headerOf b) (dataOf b)) (every-message-is-safe n s g (headerOf b) (dataOf b) (asker-address b)))
 
-  introduced : Introduced (n .settings) (headerOf b)
+  pub introduced : Introduced (n .settings) (headerOf b)
   introduced =
       let r = ranges (n .settings) (parts-of n s .settings-in-range) in
       record { own-address = r .0; own-type = r .1; asker-address = asker-address b; asker-type = asker-type b }

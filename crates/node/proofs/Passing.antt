@@ -60,11 +60,11 @@ or-later true b e = refl
 or-later false b e = e
 
 -- Replies.
-one-of : (m : ℕ) (l : List ℕ) → isIn m l ≡ true → IsOneOf m l
+pub one-of : (m : ℕ) (l : List ℕ) → isIn m l ≡ true → IsOneOf m l
 one-of m [] e = absurd (false≢true e)
 one-of m (k ∷ l) e = ⊎-elim (λ f. as-first (eqb-true m k f)) (λ f. as-later (one-of m l f)) (either-way (eqb m k) (isIn m l) e)
 
-is-in : (m : ℕ) (l : List ℕ) → IsOneOf m l → isIn m l ≡ true
+pub is-in : (m : ℕ) (l : List ℕ) → IsOneOf m l → isIn m l ≡ true
 is-in m (k ∷ l) (as-first e) = or-first (eqb m k) (isIn m l) (eq-eqb m k e)
 is-in m (k ∷ l) (as-later i) = or-later (eqb m k) (isIn m l) (is-in m l i)
 

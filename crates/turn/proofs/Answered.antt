@@ -82,7 +82,7 @@ Sayable (acts after change) = Unit {0}
 Sayable (posts message content) = Fit message content
 Sayable (refuses code) = Unit {0}
 
-code-fits : (code : Code) → codeOf code < 256
+pub code-fits : (code : Code) → codeOf code < 256
 code-fits Code.UnknownMessage = omega arith
 code-fits Code.TooLittleData = omega arith
 code-fits Code.OutOfRange = omega arith
@@ -92,7 +92,7 @@ code-fits Code.Blocked = omega arith
 code-fits Code.IpNotSet = omega arith
 
 module _ (n : Node) (h : Header) (i : Introduced (n .settings) h) where
-  answerable : (message : ℕ) (content : List ℕ) → Fit message content → Answerable (n .settings) h message content
+  pub answerable : (message : ℕ) (content : List ℕ) → Fit message content → Answerable (n .settings) h message content
   answerable message content f =
       record {
         own-address = i .own-address;

@@ -1,0 +1,130 @@
+-- Rows 32 and 33 in the paper's words: a board's settings, and a board whole, are in range exactly when these facts hold.
+-- Assumes nothing.
+use Prim.Native.Nat.{ℕ, zero, suc, _≤_}
+use mathlib.Core.Path.{_≡_, refl}
+use mathlib.Core.Logic.{_↔_}
+use mathlib.Core.Bool.{Bool, true, _&&_}
+use mathlib.Core.List.{List, [], _∷_}
+use borrow.Author.Tests.{le-leb, leb-true}
+use lib.Dec.{leb}
+use lib.ListN.{getD}
+use Rattle.travel.specs.declared.Pulse.{Pulse}
+use Rattle.board.specs.Settings.{inRange}
+use Rattle.board.specs.Drive.{motionWithin}
+use Rattle.board.specs.Favourites.{slot, ipWithin, ipsWithin}
+use Rattle.board.specs.Node.{sound}
+use Rattle.board.specs.declared.drive.Motion.{Motion}
+use Rattle.board.specs.declared.drive.Motion.the-variants.{Still, Running}
+use Rattle.board.specs.declared.favourites.Ip.{Ip}
+use Rattle.board.specs.declared.favourites.Ip.the-variants.{Unset, At}
+use Rattle.board.specs.declared.favourites.Slot.{Slot}
+use Rattle.board.specs.declared.settings.Settings.{Settings}
+use Rattle.board.specs.declared.whole.Node.{Node}
+use Rattle.board.proofs.Within.{both, and-so}
+use Rattle.board.proofs.Sound.{parts-of, sound-of}
+
+-- Row 32. A travel is 16 bits, so that 65,535 bounds it by its type.
+pub record SettingsInRange (s : Settings) : Type 0 where
+  pub NodeID-from-000001h : 0x000001 ≤ s .id .0
+  pub NodeID-to-FFFEFFh : s .id .0 ≤ 0xFFFEFF
+  pub type-from-1 : 1 ≤ s .kind
+  pub type-to-15 : s .kind ≤ 15
+  pub travel-from-100 : 100 ≤ s .travel .0
+
+-- Row 33. A target is held only while the motor runs, and an IP only where it is set.
+pub record BoardInRange (n : Node) : Type 0 where
+  pub settings-in-range : SettingsInRange (n .settings)
+  pub position-within-the-travel : n .drive .position .0 ≤ n .settings .travel .0
+  pub target-within-the-travel : (target : Pulse) → n .drive .motion ≡ Running target → target .0 ≤ n .settings .travel .0
+  pub every-IP-within-the-travel : (place : ℕ) (p : Pulse) → getD (n .favourites .slots) place (slot Unset) .ip ≡ At p → p .0 ≤ n .settings .travel .0
+  pub holder-to-FFFFFFh : n .lock .holder .0 ≤ 0xFFFFFF
+
+module _ (s : Settings) where
+  abbrev typed : Bool
+  typed = leb 1 (s .kind) && (leb (s .kind) 15 && leb 100 (s .travel .0))
+
+  settings-are : inRange s ≡ true → SettingsInRange s
+  settings-are e =
+      let a = both (leb 0x000001 (s .id .0)) (leb (s .id .0) 0xFFFEFF && typed) e in
+      let b = both (leb (s .id .0) 0xFFFEFF) typed (a .1) in
+      let c = both (leb 1 (s .kind)) (leb (s .kind) 15 && leb 100 (s .travel .0)) (b .1) in
+      let d = both (leb (s .kind) 15) (leb 100 (s .travel .0)) (c .1) in
+      record {
+        NodeID-from-000001h = leb-true 0x000001 (s .id .0) (a .0);
+        NodeID-to-FFFEFFh = leb-true (s .id .0) 0xFFFEFF (b .0);
+        type-from-1 = leb-true 1 (s .kind) (c .0);
+        type-to-15 = leb-true (s .kind) 15 (d .0);
+        travel-from-100 = leb-true 100 (s .travel .0) (d .1);
+      }
+
+  settings-so : SettingsInRange s → inRange s ≡ true
+  settings-so r =
+      rw (
+        le-leb 0x000001 (s .id .0) (r .NodeID-from-000001h),
+        le-leb (s .id .0) 0xFFFEFF (r .NodeID-to-FFFEFFh),
+        le-leb 1 (s .kind) (r .type-from-1),
+        le-leb (s .kind) 15 (r .type-to-15),
+        le-leb 100 (s .travel .0) (r .travel-from-100),
+      )
+
+  pub settings-exactly-when : SettingsInRange s ↔ (inRange s ≡ true)
+  settings-exactly-when = (settings-so, settings-are)
+
+module _ (travel : Pulse) where
+  target-is : (m : Motion) → motionWithin travel m ≡ true → (target : Pulse) → m ≡ Running target → target .0 ≤ travel .0
+  target-is m w target e = leb-true (target .0) (travel .0) (rw e at w)
+
+  target-so : (m : Motion) → ((target : Pulse) → m ≡ Running target → target .0 ≤ travel .0) → motionWithin travel m ≡ true
+  target-so Still h = refl
+  target-so (Running target) h = le-leb (target .0) (travel .0) (h target refl)
+
+  ip-so : (x : Ip) → ((p : Pulse) → x ≡ At p → p .0 ≤ travel .0) → ipWithin travel x ≡ true
+  ip-so Unset h = refl
+  ip-so (At p) h = le-leb (p .0) (travel .0) (h p refl)
+
+  ip-is : (x : Ip) → ipWithin travel x ≡ true → (p : Pulse) → x ≡ At p → p .0 ≤ travel .0
+  ip-is x w p e = leb-true (p .0) (travel .0) (rw e at w)
+
+  ips-are : (l : List Slot) → ipsWithin travel l ≡ true → (place : ℕ) (p : Pulse) → getD l place (slot Unset) .ip ≡ At p → p .0 ≤ travel .0
+  unfolding ipsWithin
+  ips-are [] w place p e = ip-is Unset refl p e
+  ips-are (s ∷ l) w zero p e = ip-is (s .ip) (both (ipWithin travel (s .ip)) (ipsWithin travel l) w .0) p e
+  ips-are (s ∷ l) w (suc place) p e = ips-are l (both (ipWithin travel (s .ip)) (ipsWithin travel l) w .1) place p e
+
+  ips-so : (l : List Slot) → ((place : ℕ) (p : Pulse) → getD l place (slot Unset) .ip ≡ At p → p .0 ≤ travel .0) → ipsWithin travel l ≡ true
+  unfolding ipsWithin
+  ips-so [] h = refl
+  ips-so (s ∷ l) h =
+      and-so (ipWithin travel (s .ip)) (ipsWithin travel l) (ip-so (s .ip) (h 0)) (ips-so l (λ place. h (suc place)))
+
+module _ (n : Node) where
+  abbrev travel : Pulse
+  travel = n .settings .travel
+
+  board-is : sound n ≡ true → BoardInRange n
+  board-is e =
+      let p = parts-of n e in
+      let d = both (leb (n .drive .position .0) (travel .0)) (motionWithin travel (n .drive .motion)) (p .drive-within) in
+      record {
+        settings-in-range = settings-are (n .settings) (p .settings-in-range);
+        position-within-the-travel = leb-true (n .drive .position .0) (travel .0) (d .0);
+        target-within-the-travel = target-is travel (n .drive .motion) (d .1);
+        every-IP-within-the-travel = ips-are travel (n .favourites .slots) (p .ips-within);
+        holder-to-FFFFFFh = p .holder-is-an-address;
+      }
+
+  board-so : BoardInRange n → sound n ≡ true
+  board-so r =
+      sound-of n
+      (record {
+        settings-in-range = settings-so (n .settings) (r .settings-in-range);
+        drive-within =
+            and-so (leb (n .drive .position .0) (travel .0)) (motionWithin travel (n .drive .motion))
+            (le-leb (n .drive .position .0) (travel .0) (r .position-within-the-travel))
+            (target-so travel (n .drive .motion) (r .target-within-the-travel));
+        ips-within = ips-so travel (n .favourites .slots) (r .every-IP-within-the-travel);
+        holder-is-an-address = r .holder-to-FFFFFFh;
+      })
+
+  pub sound-exactly-when : BoardInRange n ↔ (sound n ≡ true)
+  sound-exactly-when = (board-so, board-is)
