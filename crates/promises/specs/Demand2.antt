@@ -2,45 +2,56 @@
 -- as the message table says and does nothing for a frame not meant for it; the register files each reading under line AND NodeID and touches no
 -- other motor's record.
 -- Assumes nothing.
-use Prim.Native.Nat.{ℕ, suc, _+_, _≤_, _<_}
+use Prim.Native.Nat.{ℕ, _+_, _≤_, _<_}
 use mathlib.Core.Path.{_≡_}
 use mathlib.Core.Logic.{_≢_, _↔_}
 use mathlib.Core.Bool.{true}
 use mathlib.Core.List.{List}
-use mathlib.Core.Option.{some}
+use mathlib.Core.Option.{none, some}
 use lib.ListN.{length, take, drop}
 use Rattle.meaning.specs.Bytes.{Bytes}
 use Rattle.frame.specs.Layout.{message, source, headerOf, dataOf}
-use Rattle.frame.specs.Reading.{IsFrame, readingOf, refusedBy}
-use Rattle.frame.specs.Writing.{Writable, bufferAfter}
+use Rattle.frame.specs.Reading.{IsFrame, readingOf}
+use Rattle.frame.specs.Writing.{Writable, writingOf, over, bufferAfter}
 use Rattle.frame.specs.declared.header.Header.{Header}
 use Rattle.frame.specs.declared.reading.Reading.the-variants.{Frame}
-use Rattle.frame.proofs.Frames.{frame-exactly-when}
-use Rattle.frame.proofs.Buffers.{read-of-written, written-of-read}
 use Rattle.board.specs.Node.{sound}
 use Rattle.board.specs.declared.whole.Node.{Node}
+use Rattle.board.proofs.Ranges.{BoardInRange}
 use Rattle.turn.specs.Turn.{Groups, silent}
 use Rattle.turn.specs.Replies.{answered}
+use Rattle.turn.specs.declared.turn.Answer.the-variants.{Replied}
 use Rattle.turn.specs.declared.turn.Change.the-variants.{Keep}
 use Rattle.messages.specs.Table.{outcomeOf}
+use Rattle.messages.proofs.Contents.{Typed, TypedTable}
 use Rattle.node.specs.Meant.{replies}
 use Rattle.node.specs.Frames.{turnOf}
 use Rattle.node.proofs.Passing.{Meant, IsOneOf}
-use Rattle.node.proofs.Laws.{Untouched, meant-is-carried-out, not-meant-is-silent, a-reply-message-is-never-answered}
-use Rattle.motors.specs.Motor.{withReading}
-use Rattle.motors.specs.Register.{soundOf, found}
+use Rattle.node.proofs.Laws.{Untouched}
+use Rattle.motors.specs.Motor.{unread, withReading}
+use Rattle.motors.specs.Register.{held, soundOf, found}
 use Rattle.motors.specs.Report.{pulseIn, percentIn, ipIn}
-use Rattle.motors.specs.Filing.{filedOf}
+use Rattle.motors.specs.Filing.{filedOf, struckOf, isSome}
 use Rattle.motors.specs.declared.motor.Motor.{Motor}
 use Rattle.motors.specs.declared.answer.Answer.the-variants.{Count}
-use Rattle.motors.proofs.Register.{occupied, the-count-is-the-number-of-records-held}
-use Rattle.motors.proofs.FilingLaws.{countAfter, a-position-report-is-kept, every-other-motor-is-untouched, the-same-number-on-another-line-is-untouched, a-sound-register-stays-sound}
+use Rattle.motors.proofs.Register.{occupied}
+use Rattle.motors.proofs.FilingLaws.{countAfter}
+use Rattle.form.specs.Layout.{formLength}
+use Rattle.form.specs.Reading.{readOf}
+use Rattle.form.specs.Writing.{writtenOf, bufferAfter as formWritten}
+use Rattle.form.specs.declared.writing.Written.the-variants.{Bytes as Written}
+use Rattle.form.proofs.ReadBack.{TwoBytePulses}
+use Rattle.promises.specs.Numbers.{readNumber, writeNumber}
+use Rattle.promises.specs.Fileable.{Fileable, Strikeable}
 
 pub record Frames : Type 0 where
-  pub frame-exactly-when-the-rules-hold : (b : List ℕ) → IsFrame b ↔ (refusedBy (readingOf b) ≡ 0)
+  pub frame-exactly-when-the-rules-hold : (b : List ℕ) → IsFrame b ↔ (readNumber (readingOf b) ≡ 0)
   pub written-again-it-gives-its-own-bytes :
       (b : List ℕ) → IsFrame b → Bytes b → (buffer : List ℕ) (place : ℕ) → place + length b ≤ length buffer
       → take (length b) (drop place (bufferAfter buffer place (headerOf b) (dataOf b))) ≡ b
+  pub written-exactly-when-in-range :
+      (buffer : List ℕ) (place : ℕ) (h : Header) (d : List ℕ)
+      → Writable (length buffer) place h d ↔ (writeNumber (writingOf (length buffer) place h d) ≡ 0)
   pub what-is-written-is-read :
       (buffer : List ℕ) (place : ℕ) (h : Header) (d : List ℕ) → Writable (length buffer) place h d → h .message < 256 → Bytes d
       → (readingOf (take (11 + length d) (drop place (bufferAfter buffer place h d))) ≡ Frame h (length d))
@@ -48,57 +59,71 @@ pub record Frames : Type 0 where
 
 -- Of a sound board; one that is not is refused by row 33.
 pub record Board : Type 0 where
+  pub sound-exactly-when-in-range : (n : Node) → BoardInRange n ↔ (sound n ≡ true)
   pub meant-is-carried-out-by-the-table :
       (n : Node) (g : Groups) (b : List ℕ) → sound n ≡ true → IsFrame b → Meant (n .settings) g (headerOf b)
       → turnOf n g b ≡ answered n (headerOf b) (outcomeOf n g (headerOf b) (dataOf b))
   pub not-meant-does-nothing :
       (n : Node) (g : Groups) (b : List ℕ) → sound n ≡ true → IsFrame b → ¬ Meant (n .settings) g (headerOf b) → turnOf n g b ≡ silent n Keep
+  pub once-sound-always-sound : (n : Node) (g : Groups) (b : List ℕ) → sound n ≡ true → sound (turnOf n g b .node) ≡ true
   pub a-reply-gets-no-reply : (n : Node) (g : Groups) (b : List ℕ) → IsOneOf (message b) replies → Untouched n (turnOf n g b)
+  -- so that two boards never chatter; of numbers that fit their types, as all numbers of the code do
+  pub all-that-is-sent-is-a-reply :
+      (n : Node) (g : Groups) (b : List ℕ) → sound n ≡ true → Typed n → TypedTable g → turnOf n g b .answer ≡ Replied
+      → IsOneOf (message (take (turnOf n g b .reply .count) (turnOf n g b .reply .bytes))) replies
 
--- Of a frame that is filed.
-pub record Register : Type 0 where
-  pub a-reading-is-filed-under-line-and-NodeID :
-      (run : List Motor) (count line : ℕ) (b : List ℕ) (n : ℕ) → filedOf run count line b .answer ≡ Count n → message b ≡ 0x0D
-      → found (filedOf run count line b .motors) n line (source b .0)
-      ≡ some (withReading line (source b .0) (pulseIn (dataOf b)) (percentIn (dataOf b)) (ipIn (dataOf b)))
+-- What holds when a bundle from a line is filed in a run with its count: then `n` motors are held, in the run `after`.
+pub record Filed (run : List Motor) (count line : ℕ) (b : List ℕ) (after : List Motor) (n : ℕ) : Type 0 where
+  pub a-reading-is-found-under-line-and-NodeID :
+      message b ≡ 0x0D
+      → found after n line (source b .0) ≡ some (withReading line (source b .0) (pulseIn (dataOf b)) (percentIn (dataOf b)) (ipIn (dataOf b)))
+  pub a-new-motor-that-names-itself-is-held :
+      message b ≡ 0x60 → found run count line (source b .0) ≡ none → found after n line (source b .0) ≡ some (unread line (source b .0))
+  pub a-60h-changes-no-reading :
+      message b ≡ 0x60 → (m : Motor) → found run count line (source b .0) ≡ some m → found after n line (source b .0) ≡ some m
   pub every-other-motor-is-as-before :
+      (line′ node′ : ℕ) → (line ≡ line′ → source b .0 ≡ node′ → ⊥) → found after n line′ node′ ≡ found run count line′ node′
+  pub two-wings-one-number : (line′ : ℕ) → line ≢ line′ → found after n line′ (source b .0) ≡ found run count line′ (source b .0)
+  pub no-motor-held-is-lost : (line′ node′ : ℕ) → isSome (found run count line′ node′) ≡ true → isSome (found after n line′ node′) ≡ true
+
+-- What holds when a motor is struck out: the same of `after` and `n`.
+pub record StruckOut (run : List Motor) (count line node : ℕ) (after : List Motor) (n : ℕ) : Type 0 where
+  pub the-motor-is-gone : found after n line node ≡ none
+  pub every-other-motor-stays : (line′ node′ : ℕ) → (line ≡ line′ → node ≡ node′ → ⊥) → found after n line′ node′ ≡ found run count line′ node′
+  pub its-place-is-given-back : n + 1 ≡ count
+
+pub record Register : Type 0 where
+  pub filed-exactly-when-fileable :
+      (run : List Motor) (count line : ℕ) (b : List ℕ) → Fileable run count line b ↔ ((n : ℕ) × (filedOf run count line b .answer ≡ Count n))
+  pub what-is-filed :
       (run : List Motor) (count line : ℕ) (b : List ℕ) (n : ℕ) → filedOf run count line b .answer ≡ Count n
-      → (line′ node′ : ℕ) → (line ≡ line′ → source b .0 ≡ node′ → ⊥)
-      → found (filedOf run count line b .motors) n line′ node′ ≡ found run count line′ node′
-  pub two-wings-one-number :
-      (run : List Motor) (count line : ℕ) (b : List ℕ) (n : ℕ) → filedOf run count line b .answer ≡ Count n → (line′ : ℕ) → line ≢ line′
-      → found (filedOf run count line b .motors) n line′ (source b .0) ≡ found run count line′ (source b .0)
+      → Filed run count line b (filedOf run count line b .motors) n
+  pub struck-out-exactly-when-held :
+      (run : List Motor) (count line node : ℕ) → Strikeable run count line node ↔ ((n : ℕ) × (struckOf run count line node .answer ≡ Count n))
+  pub what-is-struck-out :
+      (run : List Motor) (count line node n : ℕ) → struckOf run count line node .answer ≡ Count n
+      → StruckOut run count line node (struckOf run count line node .motors) n
   pub the-count-is-the-records-held : (run : List Motor) (count : ℕ) → soundOf run count ≡ true → count ≡ occupied run
   pub once-sound-always-sound :
       (run : List Motor) (count line : ℕ) (b : List ℕ) → soundOf run count ≡ true
       → soundOf (filedOf run count line b .motors) (countAfter count (filedOf run count line b .answer)) ≡ true
+  pub struck-out-still-sound :
+      (run : List Motor) (count line node : ℕ) → soundOf run count ≡ true
+      → soundOf (struckOf run count line node .motors) (countAfter count (struckOf run count line node .answer)) ≡ true
+
+-- Of bytes below 256 and pulses of two bytes, as all of the code are.
+pub record StoredForm : Type 0 where
+  pub what-is-written-is-read :
+      (run : List Motor) (count : ℕ) → soundOf run count ≡ true → TwoBytePulses (held run count)
+      → (buffer : List ℕ) → formLength count ≤ length buffer → (other : List Motor) → length other ≡ 256
+      → readOf other (take (formLength count) (formWritten run count buffer)) ≡ record { motors = run; answer = Count count }
+  pub what-is-read-is-written :
+      (run : List Motor) (b : List ℕ) (n : ℕ) → readOf run b .answer ≡ Count n → Bytes b → (buffer : List ℕ) → length b ≤ length buffer
+      → (writtenOf (readOf run b .motors) n (length buffer) ≡ Written (length b)) × (formWritten (readOf run b .motors) n buffer ≡ over b buffer)
+  pub what-is-read-is-sound : (run : List Motor) (b : List ℕ) (n : ℕ) → readOf run b .answer ≡ Count n → soundOf (readOf run b .motors) n ≡ true
 
 pub record Demand2 : Type 0 where
   pub frames : Frames
   pub board : Board
   pub register : Register
-
-pub kept : Demand2
-kept =
-    record {
-      frames =
-          record {
-            frame-exactly-when-the-rules-hold = frame-exactly-when;
-            written-again-it-gives-its-own-bytes = written-of-read;
-            what-is-written-is-read = read-of-written;
-          };
-      board =
-          record {
-            meant-is-carried-out-by-the-table = meant-is-carried-out;
-            not-meant-does-nothing = not-meant-is-silent;
-            a-reply-gets-no-reply = a-reply-message-is-never-answered;
-          };
-      register =
-          record {
-            a-reading-is-filed-under-line-and-NodeID = a-position-report-is-kept;
-            every-other-motor-is-as-before = every-other-motor-is-untouched;
-            two-wings-one-number = the-same-number-on-another-line-is-untouched;
-            the-count-is-the-records-held = the-count-is-the-number-of-records-held;
-            once-sound-always-sound = a-sound-register-stays-sound;
-          };
-    }
+  pub stored-form : StoredForm

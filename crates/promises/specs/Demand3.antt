@@ -7,9 +7,6 @@ use Rattle.line.specs.Reader.{fresh}
 use Rattle.line.specs.Telling.{Entry, wholly}
 use Rattle.line.specs.Bundles.{bundles, bundleTold}
 use Rattle.line.specs.Damage.{Sent, Recording, unharmed, handed, Numbered, Owed}
-use Rattle.line.proofs.Demand3.{demand-3}
-use Rattle.line.proofs.Machine.{agrees}
-use Rattle.line.proofs.Sense.{recorded}
 
 pub record Demand3 : Type 0 where
   pub unharmed-only : (ss : List Sent) (es : List Entry) → Recording ss es → (handed (wholly fresh es) ≡ unharmed ss) × Numbered (wholly fresh es) × Owed ss (wholly fresh es)
@@ -17,6 +14,3 @@ pub record Demand3 : Type 0 where
   pub recordings-exist : (ss : List Sent) → (es : List Entry) × Recording ss es
   -- and the reader tells what splitting a recording into bundles tells
   pub bundle-by-bundle : (es : List Entry) → wholly fresh es ≡ map bundleTold (bundles es)
-
-pub kept : Demand3
-kept = record { unharmed-only = demand-3; recordings-exist = recorded; bundle-by-bundle = agrees }

@@ -1,0 +1,81 @@
+-- Demand 2 is kept.
+-- Assumes nothing.
+use Prim.Native.Nat.{ℕ}
+use native.Mathlib.Omega.{arith}
+use mathlib.Core.Path.{_≡_}
+use mathlib.Core.List.{List}
+use lib.ListN.{length}
+use Rattle.frame.proofs.Frames.{frame-exactly-when}
+use Rattle.frame.proofs.Buffers.{written-exactly-when, read-of-written, written-of-read}
+use Rattle.board.proofs.Ranges.{sound-exactly-when}
+use Rattle.node.proofs.Laws.{meant-is-carried-out, not-meant-is-silent, a-reply-message-is-never-answered, every-state-passes-row-33-again}
+use Rattle.node.proofs.Sent.{every-message-sent-is-a-reply}
+use Rattle.motors.specs.Filing.{filedOf, struckOf}
+use Rattle.motors.specs.declared.motor.Motor.{Motor}
+use Rattle.motors.specs.declared.answer.Answer.the-variants.{Count}
+use Rattle.motors.proofs.Register.{the-count-is-the-number-of-records-held}
+use Rattle.motors.proofs.FilingLaws.{a-position-report-is-kept, a-motor-that-names-itself-is-held, a-60h-changes-no-reading, every-other-motor-is-untouched, the-same-number-on-another-line-is-untouched, no-motor-held-is-lost}
+use Rattle.motors.proofs.FilingLaws as filing
+use Rattle.motors.proofs.StrikingLaws.{the-motor-struck-out-is-gone, every-other-motor-stays, one-place-is-given-back}
+use Rattle.motors.proofs.StrikingLaws as striking
+use Rattle.form.proofs.FormLaws.{a-register-written-and-read-again-is-the-same, a-form-read-and-written-again-is-the-same, an-accepted-form-gives-a-sound-register}
+use Rattle.promises.specs.Demand2.{Filed, StruckOut, Demand2}
+use Rattle.promises.proofs.Fileable.{filed-exactly-when, struck-exactly-when}
+
+filed : (run : List Motor) (count line : ℕ) (b : List ℕ) (n : ℕ) → filedOf run count line b .answer ≡ Count n
+    → Filed run count line b (filedOf run count line b .motors) n
+filed run count line b n e =
+    record {
+      a-reading-is-found-under-line-and-NodeID = a-position-report-is-kept run count line b n e;
+      a-new-motor-that-names-itself-is-held = a-motor-that-names-itself-is-held run count line b n e;
+      a-60h-changes-no-reading = a-60h-changes-no-reading run count line b n e;
+      every-other-motor-is-as-before = every-other-motor-is-untouched run count line b n e;
+      two-wings-one-number = the-same-number-on-another-line-is-untouched run count line b n e;
+      no-motor-held-is-lost = no-motor-held-is-lost run count line b n e;
+    }
+
+struck-out : (run : List Motor) (count line node n : ℕ) → struckOf run count line node .answer ≡ Count n
+    → StruckOut run count line node (struckOf run count line node .motors) n
+struck-out run count line node n e =
+    record {
+      the-motor-is-gone = the-motor-struck-out-is-gone run count line node n e;
+      every-other-motor-stays = every-other-motor-stays run count line node n e;
+      its-place-is-given-back = omega (arith, one-place-is-given-back run count line node n e);
+    }
+
+pub kept : Demand2
+kept =
+    record {
+      frames =
+          record {
+            frame-exactly-when-the-rules-hold = frame-exactly-when;
+            written-again-it-gives-its-own-bytes = written-of-read;
+            written-exactly-when-in-range = λ buffer. written-exactly-when (length buffer);
+            what-is-written-is-read = read-of-written;
+          };
+      board =
+          record {
+            sound-exactly-when-in-range = sound-exactly-when;
+            meant-is-carried-out-by-the-table = meant-is-carried-out;
+            not-meant-does-nothing = not-meant-is-silent;
+            once-sound-always-sound = λ n g b s. every-state-passes-row-33-again n g b s .still-sound;
+            a-reply-gets-no-reply = a-reply-message-is-never-answered;
+            all-that-is-sent-is-a-reply = every-message-sent-is-a-reply;
+          };
+      register =
+          record {
+            filed-exactly-when-fileable = filed-exactly-when;
+            what-is-filed = filed;
+            struck-out-exactly-when-held = struck-exactly-when;
+            what-is-struck-out = struck-out;
+            the-count-is-the-records-held = the-count-is-the-number-of-records-held;
+            once-sound-always-sound = filing.a-sound-register-stays-sound;
+            struck-out-still-sound = striking.a-sound-register-stays-sound;
+          };
+      stored-form =
+          record {
+            what-is-written-is-read = a-register-written-and-read-again-is-the-same;
+            what-is-read-is-written = a-form-read-and-written-again-is-the-same;
+            what-is-read-is-sound = an-accepted-form-gives-a-sound-register;
+          };
+    }
