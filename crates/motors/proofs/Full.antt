@@ -26,6 +26,9 @@ use Rattle.motors.proofs.Held.{more, entered-number}
 use Rattle.motors.proofs.Register.{length-held}
 use Rattle.motors.proofs.FilingRows.{as-reported}
 
+pub never-both : (a : Answer) (n : ℕ) (r : Refusal) → a ≡ Count n → a ≡ Refused r → ⊥
+never-both a n r p q = let z : _≡_ {A = ℕ} 0 1 = cc in omega arith
+
 module _ (run : List Motor) (count : ℕ) (m : Motor) (ok : soundOf run count ≡ true) where
   number : length (entered (held run count) m) ≡ more (found run count (m .line) (m .node)) + count
   number =
@@ -43,9 +46,6 @@ module _ (run : List Motor) (count : ℕ) (m : Motor) (ok : soundOf run count �
   new-and-full : (f : Option Motor) → found run count (m .line) (m .node) ≡ f → 256 < more f + count → (f ≡ none) × (count ≡ 256)
   new-and-full none e h = (refl, omega (arith, sound-is run count ok .at-most-256))
   new-and-full (some x) e h = absurd (omega (arith, sound-is run count ok .at-most-256))
-
-  never-both : (a : Answer) (n : ℕ) (r : Refusal) → a ≡ Count n → a ≡ Refused r → ⊥
-  never-both a n r p q = let z : _≡_ {A = ℕ} 0 1 = cc in omega arith
 
   only-then : enteredOf run count m .answer ≡ Refused Refusal.RegisterFull → (found run count (m .line) (m .node) ≡ none) × (count ≡ 256)
   only-then e =
@@ -80,6 +80,15 @@ module _ (run : List Motor) (count : ℕ) (m : Motor) (ok : soundOf run count �
   pub taken-exactly-when : HasAPlace ↔ ((n : ℕ) × (enteredOf run count m .answer ≡ Count n))
   taken-exactly-when =
       (λ h. (length (entered (held run count) m), taken (omega (arith, number, few-enough (found run count (m .line) (m .node)) h))), with-a-place)
+
+  pub taken-or-full : ((n : ℕ) × (enteredOf run count m .answer ≡ Count n)) ⊎ (enteredOf run count m .answer ≡ Refused Refusal.RegisterFull)
+  taken-or-full =
+      by-test (leb (length (entered (held run count) m)) 256)
+      (λ t. inl (length (entered (held run count) m), taken (leb-true _ _ t)))
+      (λ t. inr (full (leb-false _ _ t)))
+
+  pub entered-full-exactly-when : (enteredOf run count m .answer ≡ Refused Refusal.RegisterFull) ↔ ((found run count (m .line) (m .node) ≡ none) × (count ≡ 256))
+  entered-full-exactly-when = (only-then, then-too)
 
   pub full-exactly-when : (line : ℕ) (b : List ℕ) → reportOf line b ≡ Seen m
       → (filedOf run count line b .answer ≡ Refused Refusal.RegisterFull) ↔ ((found run count (m .line) (m .node) ≡ none) × (count ≡ 256))

@@ -48,7 +48,7 @@ use Rattle.form.specs.declared.writing.Written.{Written}
 use Rattle.form.proofs.FormLaws.{a-refused-form-leaves-the-run-as-it-was, a-refused-writing-changes-no-byte}
 use Rattle.promises.specs.Numbers.{writeNumber, lineNumber, eventNumber, turnNumber, registerNumber, formNumber, noFrame}
 use Rattle.promises.specs.Demand1.{Demand1}
-use Rattle.promises.proofs.Numbers.{numbers}
+use Rattle.promises.proofs.Rows.{rows}
 
 -- ---- a number that is not 0 is a refusal's
 module _ {P : Type 0} where
@@ -167,7 +167,7 @@ on-frame n g b k =
 pub kept : Demand1
 kept =
     record {
-      numbers = numbers;
+      rows = rows;
       write = write;
       step-9 = step-broken;
       close-9 = close-broken;

@@ -1,15 +1,15 @@
 -- The register files a frame exactly when it is fileable, and strikes a motor out exactly when it can: no row applies.
 -- Assumes nothing.
-use Prim.Native.Nat.{ℕ, _≤_, _<_}
+use Prim.Native.Nat.{ℕ, _<_}
 use native.Mathlib.Omega.{arith}
 use mathlib.Core.Path.{_≡_, refl, _∙_, sym, ap, subst}
 use mathlib.Core.Logic.{_↔_, _≢_, _⊎_, inl, inr}
 use mathlib.Core.Bool.{true, false, not}
 use mathlib.Core.List.{List}
-use lib.Dec.{eqb, leb, ltb}
+use lib.Dec.{eqb, ltb}
 use lib.ListN.{length}
-use borrow.Author.Tests.{leb-true, ltb-false, eqb-true, eqb-false, le-leb, le-ltb, eq-eqb, ne-eqb, not-false}
-use Rattle.meaning.specs.Choice.{if_then_else_, either}
+use borrow.Author.Tests.{leb-true, ltb-false, eqb-true, eqb-false, le-leb, ne-eqb, not-false}
+use Rattle.meaning.specs.Choice.{either}
 use Rattle.refusal.specs.declared.Refusal.{Refusal}
 use Rattle.frame.specs.Address.{group}
 use Rattle.frame.specs.Layout.{message, source, destination, headerOf, dataOf, dataCount}
@@ -20,56 +20,18 @@ use Rattle.motors.specs.Register.{held, soundOf, found}
 use Rattle.motors.specs.Report.{reported, reportBy, reportOf, pulseIn, percentIn, ipIn}
 use Rattle.motors.specs.Filing.{filedBy, filedOf, isSome, without, struckOf}
 use Rattle.motors.specs.declared.motor.Motor.{Motor}
-use Rattle.motors.specs.declared.answer.Answer.{Answer}
 use Rattle.motors.specs.declared.answer.Answer.the-variants.{Count}
-use Rattle.motors.specs.declared.answer.Answer.the-variants as motors
 use Rattle.motors.specs.declared.answer.Next.{Next}
 use Rattle.motors.specs.declared.report.Report.{Report}
 use Rattle.motors.specs.declared.report.Report.the-variants.{Seen, Refused}
-use Rattle.motors.proofs.Cases.{by-test, neither}
+use Rattle.motors.proofs.Cases.{by-test}
 use Rattle.motors.proofs.InOrder.{Sound, sound-exactly-when}
 use Rattle.motors.proofs.FilingRows.{row-19, as-reported}
 use Rattle.motors.proofs.ReportRows.{named, positioned}
 use Rattle.motors.proofs.Shown.{seen}
-use Rattle.motors.proofs.Full.{taken-exactly-when}
+use Rattle.motors.proofs.Full.{never-both, taken-exactly-when}
 use Rattle.promises.specs.Fileable.{Fileable, Reports, Strikeable}
-
-never-both : (a : Answer) (n : ℕ) (q : Refusal) → a ≡ Count n → a ≡ motors.Refused q → ⊥
-never-both a n q p r = let z : _≡_ {A = ℕ} 0 1 = cc in omega arith
-
--- ---- rows 21 and 23 as facts
-node-so : (k : ℕ) → 0x000001 ≤ k → k ≤ 0xFFFEFF → isNode k ≡ true
-unfolding isNode
-node-so k l u = rw (le-ltb k 0x000001 l, le-leb k 0xFFFEFF u)
-
-node-is : (k : ℕ) → isNode k ≡ true → (0x000001 ≤ k) × (k ≤ 0xFFFEFF)
-unfolding isNode
-node-is k e =
-    let s = neither (ltb k 0x000001) (leb k 0xFFFEFF) e in
-    (ltb-false k 0x000001 (s .0), leb-true k 0xFFFEFF (s .1))
-
-abbrev IpRight : ℕ → Type 0
-IpRight ip = ((1 ≤ ip) × (ip ≤ 16)) ⊎ (ip ≡ 0xFF)
-
-ip-so : (ip : ℕ) → IpRight ip → (if eqb ip 0xFF then true else if ltb ip 1 then false else leb ip 16) ≡ true
-ip-so ip (inl (l, u)) = rw (ne-eqb ip 0xFF (λ e. omega arith), le-ltb ip 1 l, le-leb ip 16 u)
-ip-so ip (inr e) = rw (eq-eqb ip 0xFF e)
-
-ip-is : (ip : ℕ) → (if eqb ip 0xFF then true else if ltb ip 1 then false else leb ip 16) ≡ true → IpRight ip
-ip-is ip e =
-    by-test (eqb ip 0xFF) (λ t. inr (eqb-true ip 0xFF t)) λ t.
-    let s = neither (ltb ip 1) (leb ip 16) (rw t at e) in
-    inl (ltb-false ip 1 (s .0), leb-true ip 16 (s .1))
-
-reading-so : (percent ip : ℕ) → percent ≤ 100 → IpRight ip → isReading percent ip ≡ true
-unfolding isReading
-reading-so percent ip h i = rw (le-ltb 100 percent h) (ip-so ip i)
-
-reading-is : (percent ip : ℕ) → isReading percent ip ≡ true → (percent ≤ 100) × IpRight ip
-unfolding isReading
-reading-is percent ip e =
-    let s = neither (ltb 100 percent) _ e in
-    (ltb-false 100 percent (s .0), ip-is ip (s .1))
+use Rattle.promises.proofs.Facts.{node-so, node-is, reading-so, reading-is}
 
 module _ (run : List Motor) (count line : ℕ) (b : List ℕ) where
   abbrev HasAPlace : Type 0

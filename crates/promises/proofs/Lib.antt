@@ -1,4 +1,6 @@
-pub mod Numbers
+pub mod Facts
+pub mod First
+pub mod Rows
 pub mod Fileable
 pub mod Demand1
 pub mod Demand2

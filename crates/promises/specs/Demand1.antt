@@ -1,6 +1,6 @@
 -- Demand 1: whatever arrives, every entry point answers, ends, and does its work or gives the numbered refusal; a refusal changes no state, record
 -- or lent byte, save that a refused bundle is dropped and the reader goes on. That each answers and ends is what its contract says, with no `requires`.
--- The numbers are those of `Numbers`; what a number that is not 0 leaves is said here, a line for each entry point.
+-- Which number is given, and when, is said by `Rows`; what a number that is not 0 leaves is said here, a line for each entry point.
 -- Assumes nothing.
 use Prim.Native.Nat.{ℕ, _-_, _<_}
 use mathlib.Core.Path.{_≡_}
@@ -26,11 +26,12 @@ use Rattle.motors.specs.Filing.{filedOf, struckOf}
 use Rattle.motors.specs.declared.motor.Motor.{Motor}
 use Rattle.form.specs.Reading.{readOf}
 use Rattle.form.specs.Writing.{writtenOf, bufferAfter as formWritten}
-use Rattle.promises.specs.Numbers.{Numbers, writeNumber, lineNumber, eventNumber, turnNumber, registerNumber, formNumber, noFrame}
+use Rattle.promises.specs.Numbers.{writeNumber, lineNumber, eventNumber, turnNumber, registerNumber, formNumber, noFrame}
+use Rattle.promises.specs.Rows.{Rows}
 
-pub record Demand1 : Type 0 where
-  -- every answer is 0 or one of the entry point's own numbers
-  pub numbers : Numbers
+pub record Demand1 : Type 1 where
+  -- every entry point gives the number of the first row that applies
+  pub rows : Rows
   -- the frame writer: no byte of the buffer
   pub write :
       (buffer : List ℕ) (place : ℕ) (h : Header) (d : List ℕ) → writeNumber (writingOf (length buffer) place h d) ≢ 0 → bufferWritten buffer place h d ≡ buffer
