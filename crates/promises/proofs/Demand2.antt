@@ -7,8 +7,9 @@ use mathlib.Core.List.{List}
 use lib.ListN.{length}
 use Rattle.frame.proofs.Frames.{frame-exactly-when}
 use Rattle.frame.proofs.Buffers.{written-exactly-when, read-of-written, written-of-read}
+use Rattle.travel.specs.Position.{percent-nearest, pulse-nearest, there-and-back}
 use Rattle.board.proofs.Ranges.{sound-exactly-when}
-use Rattle.node.proofs.Laws.{meant-is-carried-out, not-meant-is-silent, a-reply-message-is-never-answered, every-state-passes-row-33-again}
+use Rattle.node.proofs.Laws.{meant-is-carried-out, not-meant-is-silent, a-reply-message-is-never-answered, every-state-passes-row-33-again, every-reply-is-a-frame-to-the-asker}
 use Rattle.node.proofs.Sent.{every-message-sent-is-a-reply}
 use Rattle.motors.specs.Filing.{filedOf, struckOf}
 use Rattle.motors.specs.declared.motor.Motor.{Motor}
@@ -61,6 +62,13 @@ kept =
             once-sound-always-sound = λ n g b s. every-state-passes-row-33-again n g b s .still-sound;
             a-reply-gets-no-reply = a-reply-message-is-never-answered;
             all-that-is-sent-is-a-reply = every-message-sent-is-a-reply;
+            every-reply-is-a-frame-to-the-asker = every-reply-is-a-frame-to-the-asker;
+          };
+      positions =
+          record {
+            percent-is-the-nearest-whole = percent-nearest;
+            pulse-is-the-nearest-whole = pulse-nearest;
+            percent-to-pulse-and-back = there-and-back;
           };
       register =
           record {

@@ -2,7 +2,7 @@
 -- as the message table says and does nothing for a frame not meant for it; the register files each reading under line AND NodeID and touches no
 -- other motor's record.
 -- Assumes nothing.
-use Prim.Native.Nat.{ℕ, _+_, _≤_, _<_}
+use Prim.Native.Nat.{ℕ, _+_, _*_, _≤_, _<_}
 use mathlib.Core.Path.{_≡_}
 use mathlib.Core.Logic.{_≢_, _↔_}
 use mathlib.Core.Bool.{true}
@@ -15,6 +15,10 @@ use Rattle.frame.specs.Reading.{IsFrame, readingOf}
 use Rattle.frame.specs.Writing.{Writable, writingOf, over, bufferAfter}
 use Rattle.frame.specs.declared.header.Header.{Header}
 use Rattle.frame.specs.declared.reading.Reading.the-variants.{Frame}
+use Rattle.travel.specs.Nearest.{IsNearest}
+use Rattle.travel.specs.Position.{percentOfPulse, pulseOfPercent}
+use Rattle.travel.specs.declared.Percent.{Percent}
+use Rattle.travel.specs.declared.Pulse.{Pulse}
 use Rattle.board.specs.Node.{sound}
 use Rattle.board.specs.declared.whole.Node.{Node}
 use Rattle.board.proofs.Ranges.{BoardInRange}
@@ -22,6 +26,7 @@ use Rattle.turn.specs.Turn.{Groups, silent}
 use Rattle.turn.specs.Replies.{answered}
 use Rattle.turn.specs.declared.turn.Answer.the-variants.{Replied}
 use Rattle.turn.specs.declared.turn.Change.the-variants.{Keep}
+use Rattle.turn.proofs.Answered.{Proper}
 use Rattle.messages.specs.Table.{outcomeOf}
 use Rattle.messages.proofs.Contents.{Typed, TypedTable}
 use Rattle.node.specs.Meant.{replies}
@@ -71,6 +76,17 @@ pub record Board : Type 0 where
   pub all-that-is-sent-is-a-reply :
       (n : Node) (g : Groups) (b : List ℕ) → sound n ≡ true → Typed n → TypedTable g → turnOf n g b .answer ≡ Replied
       → IsOneOf (message (take (turnOf n g b .reply .count) (turnOf n g b .reply .bytes))) replies
+  -- from this node to the asker, with zeros behind it; in silence and when refused there is none
+  pub every-reply-is-a-frame-to-the-asker :
+      (n : Node) (g : Groups) (b : List ℕ) → sound n ≡ true → Typed n → TypedTable g → Proper (n .settings) (headerOf b) (turnOf n g b)
+
+pub record Positions : Type 0 where
+  pub percent-is-the-nearest-whole :
+      (p travel : Pulse) → 0 < travel .0 → p .0 ≤ travel .0 → IsNearest (100 * p .0) (travel .0) (percentOfPulse p travel .0)
+  pub pulse-is-the-nearest-whole :
+      (k : Percent) (travel : Pulse) → k .0 ≤ 100 → IsNearest (k .0 * travel .0) 100 (pulseOfPercent k travel .0)
+  pub percent-to-pulse-and-back :
+      (k : Percent) (travel : Pulse) → k .0 ≤ 100 → 100 ≤ travel .0 → percentOfPulse (pulseOfPercent k travel) travel ≡ k
 
 -- What holds when a bundle from a line is filed in a run with its count: then `n` motors are held, in the run `after`.
 pub record Filed (run : List Motor) (count line : ℕ) (b : List ℕ) (after : List Motor) (n : ℕ) : Type 0 where
@@ -125,5 +141,6 @@ pub record StoredForm : Type 0 where
 pub record Demand2 : Type 0 where
   pub frames : Frames
   pub board : Board
+  pub positions : Positions
   pub register : Register
   pub stored-form : StoredForm
