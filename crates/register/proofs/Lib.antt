@@ -1,6 +1,9 @@
 pub mod Again
 pub mod Shared
 pub mod Rows
+pub mod Calls
+pub mod Args
+pub mod Carry
 pub mod Whole
 pub mod Thin
 pub mod Walk

@@ -1,6 +1,6 @@
 -- The words that a walk by hand of a thin function is written in.
 -- Assumes nothing.
-pub use mathlib.Core.Path.{_≡_, refl, sym, _∙_, ap, subst}
+pub use mathlib.Core.Path.{_≡_, refl, _∙_, ap, subst}
 pub use Prim.Native.Nat.{ℕ, _<_, _^_}
 pub use mathlib.Core.List.{List, [], _∷_}
 pub use lib.ListN.{length}
@@ -51,9 +51,19 @@ pub use Rattle.motors.specs.declared.answer.Answer.{Answer}
 pub use Rattle.motors.proofs.answer.Answer as S
 pub use Rattle.motors.proofs.answer.Answer.Laws as S′
 pub use Rattle.register.specs.Run.{copyOf, storedOf, ofPlaces}
+pub use Rattle.motors.specs.declared.edit.Edit.{Edit}
+pub use Rattle.motors.proofs.edit.Edit as B
+pub use Rattle.motors.proofs.edit.Edit.Laws as B′
+pub use Rattle.motors.proofs.survey.Survey as Y
+pub use Rattle.motors.proofs.survey.Survey.Laws as Y′
 pub use Rattle.register.proofs.Rows.{aval, of-field}
+pub use Rattle.register.proofs.Calls.{Arg, values, machine, ready, Callee, answers}
+pub use Rattle.register.proofs.Args.{Run256, a-u8, a-u32, a-usize, a-survey, a-report, typed, typed-survey, typed-edit, typed-report, typed-answer}
 pub use Rattle.register.proofs.Thin as Thin
-pub use Rattle.register.proofs.Thin.{Run256, Load, Store}
+pub use Rattle.register.proofs.Thin.{Load, Store, Surveying, Moving}
+pub use Rattle.register.proofs.places.survey.Symbol as survey-def
+pub use Rattle.register.proofs.places.survey.Symbol.{name as #register·places·survey}
+pub use Rattle.register.proofs.places.survey.Met as survey-thm
 pub use Rattle.register.proofs.run.load.Symbol as load-def
 pub use Rattle.register.proofs.run.load.Symbol.{name as #register·run·load}
 pub use Rattle.register.proofs.run.load.Met as load-thm

@@ -10,11 +10,10 @@ use borrow.Author.Tests.{eq-eqb, ne-eqb, eqb-true, eqb-false}
 use Rattle.refusal.specs.declared.Refusal.{Refusal}
 use Rattle.motors.specs.Motor.{zeros}
 use Rattle.motors.specs.Register.{soundOf}
-use Rattle.motors.specs.Filing.{refusing, filedOf, struckOf}
+use Rattle.motors.specs.Filing.{refusing}
 use Rattle.motors.specs.declared.answer.Next.{Next}
 use Rattle.motors.specs.declared.motor.Motor.{Motor}
 use Rattle.motors.proofs.Cases.{by-test}
-use Rattle.motors.proofs.FilingRows as filing
 use Rattle.form.specs.Reading.{readOf}
 use Rattle.form.specs.Writing.{writtenOf, laid, bufferAfter}
 use Rattle.form.specs.declared.writing.Written.{Written}
@@ -53,12 +52,6 @@ module _ (run : List Motor) where
     unfolding storedOf
     not-stored n = rw (ne-eqb (length run) 256 n)
 
-    pub stored-length : length copy ≡ 256 → length (storedOf run copy) ≡ length run
-    stored-length e =
-        by-test (eqb (length run) 256)
-        (λ t. ap length (stored (eqb-true _ _ t)) ∙ e ∙ sym (eqb-true _ _ t))
-        (λ t. ap length (not-stored (eqb-false _ _ t)))
-
 -- ---- what is done with the copy and stored is what is done with the run, where a run of another length is refused
 module _ (meaning : List Motor → Next) (refuses : (run : List Motor) → (length run ≡ 256 → ⊥) → meaning run ≡ refusing run Refusal.BrokenRegister) where
   pub settled : (run : List Motor) (next : Next) → next ≡ ofPlaces (length run) (copyOf run) (meaning (copyOf run))
@@ -81,12 +74,6 @@ module _ (meaning : List Motor → Next) (refuses : (run : List Motor) → (leng
 pub never-sound : (run : List Motor) (count : ℕ) → (length run ≡ 256 → ⊥) → soundOf run count ≡ false
 unfolding soundOf
 never-sound run count n = rw (ne-eqb (length run) 256 n)
-
-pub filing-refuses : (count line : ℕ) (b : List ℕ) (run : List Motor) → (length run ≡ 256 → ⊥) → filedOf run count line b ≡ refusing run Refusal.BrokenRegister
-filing-refuses count line b run n = filing.row-19 run count line b (never-sound run count n)
-
-pub striking-refuses : (count line node : ℕ) (run : List Motor) → (length run ≡ 256 → ⊥) → struckOf run count line node ≡ refusing run Refusal.BrokenRegister
-striking-refuses count line node run n = filing.row-19-striking run count line node (never-sound run count n)
 
 pub reading-refuses : (b : List ℕ) (run : List Motor) → (length run ≡ 256 → ⊥) → readOf run b ≡ refusing run Refusal.BrokenRegister
 reading-refuses b run n = form.row-19 run b n

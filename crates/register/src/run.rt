@@ -1,4 +1,7 @@
 // The lent run: a slice of motor records.
+use crate::places::move_down;
+use crate::places::move_up;
+use crate::places::survey;
 use crate::work;
 use form::Written;
 use motors::Answer;
@@ -14,18 +17,21 @@ ghost use Rattle.register.specs.Run.{copyOf, storedOf};
 pub fn file(run: &mut [Motor], count: usize, line: u8, bundle: &[u8]) -> Answer
     ensures { λ r. ⌜ (r ≡ filedOf (now (run .entry)) count line (now (bundle .entry)) .answer) × (now (run .exit) ≡ filedOf (now (run .entry)) count line (now (bundle .entry)) .motors) ⌝ }
 {
-    let next = work::file(load(run), run.len(), count, line, bundle);
-    store(run, next.motors);
-    next.answer
+    let report = motors::read_report(line, bundle);
+    let found = survey(run, count, motors::subject(report));
+    let edit = motors::to_file(found, count, report);
+    move_up(run, edit.from, edit.last, edit.motor);
+    edit.answer
 }
 
 // A motor struck out: rows 19, 20, 25.
 pub fn strike_out(run: &mut [Motor], count: usize, line: u8, node: u32) -> Answer
     ensures { λ r. ⌜ (r ≡ struckOf (now (run .entry)) count line node .answer) × (now (run .exit) ≡ struckOf (now (run .entry)) count line node .motors) ⌝ }
 {
-    let next = work::strike_out(load(run), run.len(), count, line, node);
-    store(run, next.motors);
-    next.answer
+    let found = survey(run, count, motors::unread(line, node));
+    let edit = motors::to_strike(found, count, line);
+    move_down(run, edit.from, edit.last, edit.motor);
+    edit.answer
 }
 
 // Stored form 1 read into the run: rows 19, 40 to 44.

@@ -7,33 +7,9 @@ use refusal::Refusal;
 ghost use mathlib.Core.Path.{_≡_};
 ghost use lib.ListN.{length};
 ghost use Rattle.register.specs.Run.{ofPlaces, writtenIn, bufferIn};
-ghost use Rattle.motors.specs.Filing.{filedOf, struckOf, refusing};
+ghost use Rattle.motors.specs.Filing.{refusing};
 ghost use Rattle.refusal.specs.declared.Refusal.{Refusal};
 ghost use Rattle.form.specs.Reading.{readOf};
-
-pub(crate) fn file(copy: [Motor; 256], places: usize, count: usize, line: u8, bundle: &[u8]) -> Next
-    ensures { λ r. ⌜ r ≡ ofPlaces places copy (filedOf copy count line (now (bundle .entry))) ⌝ }
-{
-    if places != 256 {
-        return broken(copy);
-    }
-    motors::file(copy, count, line, bundle)
-}
-
-pub(crate) fn strike_out(
-    copy: [Motor; 256],
-    places: usize,
-    count: usize,
-    line: u8,
-    node: u32,
-) -> Next
-    ensures { λ r. ⌜ r ≡ ofPlaces places copy (struckOf copy count line node) ⌝ }
-{
-    if places != 256 {
-        return broken(copy);
-    }
-    motors::strike(copy, count, line, node)
-}
 
 pub(crate) fn read_form(copy: [Motor; 256], places: usize, bytes: &[u8]) -> Next
     ensures { λ r. ⌜ r ≡ ofPlaces places copy (readOf copy (now (bytes .entry))) ⌝ }
