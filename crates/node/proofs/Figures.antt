@@ -16,10 +16,10 @@ use Rattle.board.specs.Node.{fresh, withDrive}
 use Rattle.board.specs.declared.drive.Motion.the-variants.{Still}
 use Rattle.board.specs.declared.whole.Node.{Node}
 use Rattle.turn.specs.declared.turn.Change.the-variants.{Keep}
-use Rattle.turn.specs.Turn.{Groups, reply, replied}
+use Rattle.turn.specs.Turn.{reply, replied}
 use Rattle.turn.specs.Replies.{replyTo}
 use Rattle.messages.specs.Table.{outcomeOf, positionRow}
-use Rattle.node.specs.Groups.{inTable}
+use Rattle.node.specs.Groups.{noGroups, inTable}
 use Rattle.node.specs.Meant.{meant}
 use Rattle.node.specs.Frames.{turnOf}
 
@@ -28,12 +28,9 @@ abbrev awning : Node
 awning =
     withDrive (fresh (record { id = addressOf 0x03 0x04 0x05; kind = 2; travel = pulse 1000 })) (drive (pulse 333) Still 0xFF 0 0xFF false)
 
-abbrev no-groups : Groups
-no-groups = replicate 16 (0 ∷ 0 ∷ 0 ∷ [])
-
 abbrev pub P4 : Type 0
 P4 =
-    turnOf awning no-groups getPosition
+    turnOf awning noGroups getPosition
     ≡ replied awning Keep
     (reply 16 (
     (0xF2 ∷ 0xEF ∷ 0xDF ∷ 0xFC ∷ 0xFB ∷ 0xFA ∷ 0xFF ∷ 0x00 ∷ 0x00 ∷ 0xB2 ∷ 0xFE ∷ 0xDE ∷ 0x00 ∷ 0x00 ∷ 0x09 ∷ 0x3E ∷ [])
