@@ -1,7 +1,6 @@
 -- What `move_up` and `move_down` share. Both carry a motor through the places of a run: at each place what is carried and the record there change over. They differ in where
 -- they begin, in the test and in the step from one place to the next.
 --     Way              one of the two directions: the list operation that it is, how many places are left at i, and what the work that is left makes of the run
---     shifting         the contract of both
 --     Turn             where such a loop stands: the work that is left gives the same end
 --     swaps            the statements of a turn in which what is carried and the record at place i change over, as a rule of the walk's calculus
 --     leaves, looped   the end of the loop, and the loop
@@ -24,7 +23,6 @@ use base.Logic.{SProp, ent, emp, via, fst∗}
 use base.Fml.{Lft, GName, Share, Fml, ftrue, fat, froom, fdies, flft, fobs, fauth, fobor}
 use prog.Wp.{Heap, Env, Calls, Loops, Wp, WpFn, Tables, afterSeq, afterBlock, afterTurn, atReturn}
 use ghost.Atoms.{Atoms}
-use contract.Monad.{fact}
 use types.Kit as Kit
 use types.Kit.{Given, Item, Sq, runs, anyQ, atRet, ‵, _⊛_, ⋆, _$_, _∵_, !, qed, by, move, keep, drop, split, join, rewrite, fsplit, fjoin, feqI, suffices, frame, done}
 use types.Part.{whole, sub, look-in}
@@ -35,7 +33,7 @@ use denote.Laws.{Is, shows}
 use denote.Memory.{pointee}
 use denote.Plain.{uint-vals, uint-tells, uint-makes}
 use denote.Builtin.{usize}
-use denote.Ref.{RefT, now}
+use denote.Ref.{RefT}
 use denote.Slice.{sliceTy, sliceVal, MutSlice, Room, heres, codedHoleys, at-slice, slice-vals, mut-slice-tells}
 use denote.Lend.{Held}
 use denote.Shadow.{pureI}
@@ -44,7 +42,7 @@ use denote.Signature.{plain}
 use denote.Steps.{owned, nothing}
 use denote.Struct.Laws as LL
 use denote.Triple.Entry.{Vals, onEntry}
-use denote.Triple.Clauses.{Clauses, closing}
+use denote.Triple.Clauses.{closing}
 use denote.Triple.Spec.{Meets}
 use denote.Triple.Walked.{says, Stays, stay-slice, stay-none, walkOf, goes-slice, goes-none, Walks, ends-at, walked, walk-meets}
 use denote.Exit.{yes}
@@ -54,7 +52,7 @@ use Rattle.motors.proofs.motor.Motor as T
 use Rattle.motors.proofs.motor.Motor.Laws as T′
 use Rattle.register.proofs.Rows.{vals, out}
 use Rattle.register.proofs.Args.{typed}
-use Rattle.register.proofs.places.move_up as up
+use Rattle.register.proofs.Thin.{Shifting, shifting}
 
 -- ---- what a call hands over: the lent run, its lifetime and share of the token, the first place and the last, and the motor
 pub record Handed : Type 0 where
@@ -115,11 +113,7 @@ module _ (D : Way) (Z : Handed) where
   falls : WellFounded Falls
   falls = InvImage·wf (λ (t : Turn). left (t .i)) (Nat·lt-wfRel .wf)
 
--- ---- the contract: the lent run at exit is what the list operation makes of it
-abbrev pub shifting : {M : Type 1} (𝓤 : URA M) → Way → Clauses 𝓤 up.ended
-shifting 𝓤 D κs a = record { ghost = Unit {0}; requires = λ _. emp 𝓤; ensures = λ _ _ z. fact 𝓤 (now (z .0) ≡ D .moved (now (a .0)) (a .1 .0) (a .1 .1 .0) (a .1 .1 .1 .0)) }
-
-abbrev stayed : Stays (up.ended .signature .params) (up.ended .kept)
+abbrev stayed : Stays (Shifting .signature .params) (Shifting .kept)
 stayed = (stay-slice (0 ∷ []) tt (plain (λ _. T.the-row)), (stay-none (λ _. usize) yes, (stay-none (λ _. usize) yes, (stay-none (λ _. T.the-row) yes, tt))))
 
 -- ---- the code: the locals, what both functions do before they differ, the statements of a turn that both have, and the end
@@ -191,19 +185,19 @@ module _ {M : Type 1} (𝓤 : URA M) (H : Heap 𝓤) (A : Atoms 𝓤) (W : Given
   abbrev Own : List Motor → Fml
   Own l = MutSlice (named 0) κ T.the-row .own (x l) (s ∷ [])
 
-  abbrev at : Vals up.signature (κ, tt)
+  abbrev at : Vals (Shifting .signature) (κ, tt)
   at = (s ∷ [], (vint w64 start ∷ [], (vint w64 last ∷ [], (T′.lowered m ∷ [], tt))))
 
-  abbrev bound : walkOf 𝓤 H A up.ended stayed (shifting 𝓤 D) .Ghost
+  abbrev bound : walkOf 𝓤 H A Shifting stayed (shifting 𝓤 (D .moved)) .Ghost
   bound = (((κ, tt), (q, tt), tt, (x ys, (start, (last, (m, tt)))), at), tt)
 
   abbrev pub Post : Val → SProp 𝓤
-  Post = walkOf 𝓤 H A up.ended stayed (shifting 𝓤 D) .post bound
+  Post = walkOf 𝓤 H A Shifting stayed (shifting 𝓤 (D .moved)) .post bound
 
   exits : (zs : List Motor) → zs ≡ target D Z → length zs ≡ length ys → ent 𝓤 (⋆ 𝓤 H A (‵ (Own zs) ∷ ‵ (flft κ q) ∷ [])) (Post vunit)
   exits zs e l =
       qed W (‵ (Own zs) ∷ ‵ (flft κ q) ∷ []) ∵
-      suffices ! _ (ends-at 𝓤 H A up.ended stayed (shifting 𝓤 D) W bound vunit tt (zs, (tt, (tt, (tt, tt)))) (l, (tt, (tt, (tt, tt))))) $ says ! e $
+      suffices ! _ (ends-at 𝓤 H A Shifting stayed (shifting 𝓤 (D .moved)) W bound vunit tt (zs, (tt, (tt, (tt, tt)))) (l, (tt, (tt, (tt, tt))))) $ says ! e $
       nothing ! $ move ! (2 ∷ 0 ∷ []) $ join ! $ frame ! $ nothing ! $ owned ! T.the-row (Is T.the-row) ((LL.makes T.the-type T′.the-plain) 𝓤 H A) m _ is $ fjoin ! $
       owned ! usize (Is usize) (uint-makes 𝓤 H A W w64) last _ (refl, g-last) $ fjoin ! $ owned ! usize (Is usize) (uint-makes 𝓤 H A W w64) start _ (refl, g-start) $ fjoin ! $
       move ! (1 ∷ 0 ∷ []) $ fjoin ! $ frame ! $ feqI ! (List Val) (vunit ∷ []) (vunit ∷ []) refl $ done !
@@ -289,7 +283,7 @@ module _ {M : Type 1} (𝓤 : URA M) (H : Heap 𝓤) (A : Atoms 𝓤) (W : Given
     Begun = Stands (‵ (froom word (L .l₆) 0)) ys m unread untested
 
   walk : (later : Body) → ((L : Cells) → last < length ys → Sq W (Begun L) (runs C Λ (E L) later (atRet (E L) Post))) → (length ys ≤ last → target D Z ≡ ys)
-      → ent 𝓤 (onEntry 𝓤 H A up.signature (κ, tt) (q, tt) (x ys, (start, (last, (m, tt)))) at) (WpFn 𝓤 H C Λ (function later) (s ∷ vint w64 start ∷ vint w64 last ∷ T′.lowered m ∷ []) Post)
+      → ent 𝓤 (onEntry 𝓤 H A (Shifting .signature) (κ, tt) (q, tt) (x ys, (start, (last, (m, tt)))) at) (WpFn 𝓤 H C Λ (function later) (s ∷ vint w64 start ∷ vint w64 last ∷ T′.lowered m ∷ []) Post)
   walk later goes beyond =
       qed W ((‵ (flft κ q) ⊛ ‵ ftrue) ∷ ‵ (owns (MutSlice (named 0) κ T.the-row ∷ usize ∷ usize ∷ T.the-row ∷ []) (x ys, (start, (last, (m, tt)))) at) ∷ []) ∵ enter ! C Λ (function later) (s ∷ vint w64 start ∷ vint w64 last ∷ T′.lowered m ∷ []) _ $
       alloc1 ! (λ l₀. alloc1 ! (λ l₁. alloc1 ! (λ l₂. alloc1 ! (λ l₃. alloc1 ! (λ l₄. alloc1 ! (λ l₅. alloc1 ! (λ l₆. alloc1 ! (λ l₇. alloc1 ! (λ l₈. alloc1 ! (λ l₉. alloc1 ! (λ l₁₀. alloc1 ! (λ l₁₁. alloc1 ! (λ l₁₂. alloc1 ! (λ l₁₃. alloc1 ! (λ l₁₄. alloc0 ! $ params1 ! $
@@ -315,13 +309,13 @@ module _ {M : Type 1} (𝓤 : URA M) (H : Heap 𝓤) (A : Atoms 𝓤) (W : Given
 module _ {M : Type 1} (𝓤 : URA M) (H : Heap 𝓤) (A : Atoms 𝓤) (W : Given 𝓤 H A) (D : Way) (𝓣 : Tables 𝓤 H) (later : Body)
     (goes : (Z : Handed) (L : Cells) → Z .last < length (Z .ys) → Sq W (Begun 𝓤 H A W D 𝓣 Z L) (runs (𝓣 .C) (𝓣 .Λ) (E 𝓤 H A W D 𝓣 Z L) later (atRet (E 𝓤 H A W D 𝓣 Z L) (Post 𝓤 H A W D 𝓣 Z))))
     (beyond : (Z : Handed) → length (Z .ys) ≤ Z .last → target D Z ≡ Z .ys) where
-  walks : Walks 𝓤 H A up.ended stayed (WpFn 𝓤 H (𝓣 .C) (𝓣 .Λ) (function later)) (shifting 𝓤 D)
-  walks = walked 𝓤 H A up.ended stayed (shifting 𝓤 D) (WpFn 𝓤 H (𝓣 .C) (𝓣 .Λ) (function later)) (λ κs. (slice-vals, (uint-vals w64, (uint-vals w64, (vals, tt))))) (λ κs. (mut-slice-tells (named 0) (κs .0) T.the-row, (uint-tells w64, (uint-tells w64, (LL.tells T.the-type T′.the-laws, tt)))))
+  walks : Walks 𝓤 H A Shifting stayed (WpFn 𝓤 H (𝓣 .C) (𝓣 .Λ) (function later)) (shifting 𝓤 (D .moved))
+  walks = walked 𝓤 H A Shifting stayed (shifting 𝓤 (D .moved)) (WpFn 𝓤 H (𝓣 .C) (𝓣 .Λ) (function later)) (λ κs. (slice-vals, (uint-vals w64, (uint-vals w64, (vals, tt))))) (λ κs. (mut-slice-tells (named 0) (κs .0) T.the-row, (uint-tells w64, (uint-tells w64, (LL.tells T.the-type T′.the-laws, tt)))))
       (λ κs qs bounds a g are. via 𝓤 _ (fst∗ 𝓤 _ (emp 𝓤))
       (let Z : Handed = record { κ = κs .0; q = qs .0; b = a .0 .ptr .0; o = a .0 .ptr .1; γ = a .0 .name; ys = a .0 .now; start = a .1 .0; last = a .1 .1 .0; m = a .1 .1 .1 .0; g-start = are .1 .0 .1; g-last = are .1 .1 .0 .1; is = are .1 .1 .1 .0; room = are .0 .0 .1 } in
       walk 𝓤 H A W D 𝓣 Z later (goes Z) (beyond Z)))
 
-  pub meets : Meets 𝓤 H A up.signature (WpFn 𝓤 H (𝓣 .C) (𝓣 .Λ) (function later)) (closing 𝓤 H A up.ended (shifting 𝓤 D))
+  pub meets : Meets 𝓤 H A (Shifting .signature) (WpFn 𝓤 H (𝓣 .C) (𝓣 .Λ) (function later)) (closing 𝓤 H A Shifting (shifting 𝓤 (D .moved)))
   meets =
-      walk-meets 𝓤 H A up.ended stayed W (goes-slice 𝓤 H A W 1 0 tt (plain (λ _. T.the-row)), (goes-none 𝓤 H A W 1 (λ _. usize) yes (λ κs x f. refl), (goes-none 𝓤 H A W 1 (λ _. usize) yes (λ κs x f. refl), (goes-none 𝓤 H A W 1 (λ _. T.the-row) yes (λ κs x f. refl), tt)))) (shifting 𝓤 D)
+      walk-meets 𝓤 H A Shifting stayed W (goes-slice 𝓤 H A W 1 0 tt (plain (λ _. T.the-row)), (goes-none 𝓤 H A W 1 (λ _. usize) yes (λ κs x f. refl), (goes-none 𝓤 H A W 1 (λ _. usize) yes (λ κs x f. refl), (goes-none 𝓤 H A W 1 (λ _. T.the-row) yes (λ κs x f. refl), tt)))) (shifting 𝓤 (D .moved))
       (WpFn 𝓤 H (𝓣 .C) (𝓣 .Λ) (function later)) (WpFn-mono 𝓤 H (W .laws) 𝓣 (function later)) walks

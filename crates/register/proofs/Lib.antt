@@ -3,8 +3,8 @@ pub mod Shared
 pub mod Rows
 pub mod Calls
 pub mod Args
-pub mod Carry
 pub mod Whole
 pub mod Thin
+pub mod Carry
 pub mod Walk
 pub mod Determined

@@ -76,15 +76,22 @@ module _ (ps : List (Slot 1)) (ks : Kepts ps) where
   abbrev pub leaving : {M : Type 1} (𝓤 : URA M) → ((κs : Lfts 1) → List Motor → Denots (typesAt ps κs) → List Motor) → Clauses 𝓤 Lent
   leaving 𝓤 after κs a = record { ghost = Unit {0}; requires = λ _. emp 𝓤; ensures = λ _ _ z. fact 𝓤 (now (z .0) ≡ after κs (now (a .0)) (a .1)) }
 
+-- `move_up` and `move_down`
+abbrev shifted : List (Slot 1)
+shifted = plain (λ _. usize) ∷ plain (λ _. usize) ∷ plain (λ _. T.the-row) ∷ []
+
+abbrev pub Shifting : Ended
+Shifting = Lent shifted (yes, (yes, (yes, tt)))
+
+abbrev pub shifting : {M : Type 1} (𝓤 : URA M) → (List Motor → (start last : ℕ) → Motor → List Motor) → Clauses 𝓤 Shifting
+shifting 𝓤 moved = leaving shifted (yes, (yes, (yes, tt))) 𝓤 (λ _ l a. moved l (a .0) (a .1 .0) (a .1 .1 .0))
+
 module _ {M : Type 1} (𝓤 : URA M) (H : Heap 𝓤) (A : Atoms 𝓤) where
   abbrev pub Store : Contract 𝓤
   Store = Callee 𝓤 H A (Lent (plain (λ _. Run256) ∷ []) (yes, tt)) (leaving (plain (λ _. Run256) ∷ []) (yes, tt) 𝓤 (λ _ l a. storedOf l (a .0)))
 
-  abbrev shifted : List (Slot 1)
-  shifted = plain (λ _. usize) ∷ plain (λ _. usize) ∷ plain (λ _. T.the-row) ∷ []
-
   abbrev pub Moving : (List Motor → (start last : ℕ) → Motor → List Motor) → Contract 𝓤
-  Moving moved = Callee 𝓤 H A (Lent shifted (yes, (yes, (yes, tt)))) (leaving shifted (yes, (yes, (yes, tt))) 𝓤 (λ _ l a. moved l (a .0) (a .1 .0) (a .1 .1 .0)))
+  Moving moved = Callee 𝓤 H A Shifting (shifting 𝓤 moved)
 
 -- ---- the rules
 module _ {M : Type 1} (𝓤 : URA M) (H : Heap 𝓤) (A : Atoms 𝓤) (W : Given 𝓤 H A) (mem : Memory → SProp 𝓤) (run : Routine → Fun 𝓤) (κ : Lft) (q : Share) (b o : ℕ) (γ : GName) (ys : List Motor) (room : Room R (length ys)) where
@@ -200,5 +207,5 @@ module _ {M : Type 1} (𝓤 : URA M) (H : Heap 𝓤) (A : Atoms 𝓤) (W : Given
     module _ {K : Type 0} {Γ : List (Item 𝓤)} {E : Env 𝓤 H} {C : Calls 𝓤 H} {Λ : Loops 𝓤 H} {p : Kit.Post 𝓤 H} {f : Name} {xs : List Operand} {d : Place} {rest : Body} (fm : FmC 𝓤 H (W .laws) C) where
       pub moves : K → Triple 𝓤 (C f) (Moving 𝓤 H A moved) → ((ν : ℕ) (δ : GName) → Opds K W (raw (Moving 𝓤 H A moved .pre (to-move ν δ)) ∷ ‵ (LentAgain R κ (ν ∷ []) q γ b o δ ys) ∷ Γ) E xs (s ∷ vint w64 start ∷ vint w64 last ∷ T′.lowered m ∷ []))
           → (length (moved ys start last m) ≡ length ys → Seq K W (‵ (Own (moved ys start last m)) ∷ ‵ (flft κ q) ∷ Γ) (lands C Λ E d vunit rest p)) → Seq K W (‵ (Own ys) ∷ ‵ (flft κ q) ∷ Γ) (runs C Λ E (seq (call f xs d) rest) p)
-      moves = lends (shifted 𝓤 H A) (yes, (yes, (yes, tt))) (λ _ l a. moved l (a .0) (a .1 .0) (a .1 .1 .0)) (λ _. (start, (last, (m, tt)))) (λ _. (vint w64 start ∷ [], (vint w64 last ∷ [], (T′.lowered m ∷ [], tt))))
+      moves = lends shifted (yes, (yes, (yes, tt))) (λ _ l a. moved l (a .0) (a .1 .0) (a .1 .1 .0)) (λ _. (start, (last, (m, tt)))) (λ _. (vint w64 start ∷ [], (vint w64 last ∷ [], (T′.lowered m ∷ [], tt))))
           (λ _. all-had 𝓤 H A W (a-usize 𝓤 H A W start g-start ∷ a-usize 𝓤 H A W last g-last ∷ a-motor 𝓤 H A W m gm ∷ [])) (moved ys start last m) (λ _. refl) fm

@@ -13,7 +13,7 @@ use Rattle.register.proofs.Walk.load-def
 use Rattle.register.proofs.Walk.load-thm
 use Rattle.register.proofs.Walk.store-def
 use Rattle.register.proofs.Walk.store-thm
-use Rattle.register.proofs.Walk.{_≡_, refl, ap, subst, ℕ, List, [], _∷_, length, URA, fullShare, Ty, named, imm, w64, tyInt, tyUnit, tyRef, Val, vint, SProp, ent, sep, emp, via, fst∗, snd∗, id⊢, exE, Lft, GName, Share, Fml, ftrue, fat, froom, fdies, flft, Memory, Routine, Heap, Env, Calls, Loops, WpFn, Tables, Atoms, sem, Fun, fact, givenOf, tables, tablesOf, Given, Item, Sq, runs, atRet, ‵, raw, some, later, _⊛_, ⋆, _$_, _∵_, !, qed, by, move, keep, drop, use1, use2, split, join, pick, rewrite, fsplit, fjoin, suffices, frame, await, done, agg, whole, sub, look-in, look, init, forget, stop, hop, fld, from, load, addr, of-opd, and-then, no-more, assigns, land, returns, enter, alloc1, alloc0, params1, pass1, pass0, free1, free0, FmC, fmOf, WpFn-mono, owns, Is, shows, pointee, array-lawful, array-makes, uint-makes, u8, usize, RefT, sliceTy, sliceVal, MutSlice, ShrSlice, Room, slice-vals, mut-slice-tells, shr-slice-tells, shr-slice-copy, plain, only, owned, peeks, heard, nothing, Vals, onEntry, Meets, tripleOf, Contract, Triple, calls-at, ensured, lasts, entered, cited, says, Stays, stay-slice, stay-none-slice, walkOf, goes-slice, goes-none-slice, Walks, ends-at, walked, walk-meets, yes, Motor, Next, Answer, copyOf, storedOf, ofPlaces, aval, of-field, Run256, Load, Store, #register·run·load, #register·run·store, slice, ref-imm, ref-mut, array}
+use Rattle.register.proofs.Walk.{_≡_, refl, subst, ℕ, List, [], _∷_, length, URA, fullShare, Ty, named, imm, w64, tyInt, tyUnit, tyRef, Val, vint, SProp, ent, sep, emp, via, fst∗, id⊢, Lft, GName, Share, Fml, ftrue, fat, froom, fdies, flft, Memory, Routine, Heap, Env, Calls, Loops, WpFn, Tables, Atoms, sem, Fun, givenOf, tables, tablesOf, Given, Item, Sq, runs, atRet, ‵, raw, _⊛_, ⋆, _$_, _∵_, !, qed, by, move, keep, use1, use2, split, join, fsplit, fjoin, suffices, frame, done, agg, whole, sub, look-in, look, init, forget, stop, hop, fld, from, load, addr, of-opd, and-then, no-more, assigns, land, returns, enter, alloc1, alloc0, params1, pass1, pass0, free1, free0, FmC, fmOf, WpFn-mono, owns, Is, pointee, array-lawful, array-makes, uint-makes, u8, usize, RefT, sliceTy, sliceVal, MutSlice, ShrSlice, Room, slice-vals, mut-slice-tells, shr-slice-tells, shr-slice-copy, plain, owned, nothing, Vals, onEntry, Meets, tripleOf, Contract, Triple, entered, cited, says, Stays, stay-slice, stay-none-slice, walkOf, goes-slice, goes-none-slice, Walks, ends-at, walked, walk-meets, yes, Motor, Next, Answer, copyOf, storedOf, ofPlaces, aval, of-field, Run256, Load, Store, #register·run·load, #register·run·store, slice, ref-imm, ref-mut, array, Callee, answers}
 use Rattle.form.specs.Reading.{readOf}
 use Rattle.register.proofs.Whole.{settled, reading-refuses}
 use Rattle.register.proofs.work.read_form as callee
@@ -32,8 +32,8 @@ stayed = (stay-slice (0 ∷ []) tt (plain (λ _. T.the-row)), (stay-none-slice (
 abbrev bundle-ty : Ty
 bundle-ty = sliceTy (tyRef (named 1) imm (pointee (u8 .written)))
 
-abbrev Callee : {M : Type 1} (𝓤 : URA M) (H : Heap 𝓤) (A : Atoms 𝓤) (mem : Memory → SProp 𝓤) (run : Routine → Fun 𝓤) → Contract 𝓤
-Callee 𝓤 H A mem run = tripleOf 𝓤 H A callee.signature (callee.spec 𝓤 H A mem run)
+abbrev Work : {M : Type 1} (𝓤 : URA M) (H : Heap 𝓤) (A : Atoms 𝓤) (mem : Memory → SProp 𝓤) (run : Routine → Fun 𝓤) → Contract 𝓤
+Work 𝓤 H A mem run = Callee 𝓤 H A callee.ended (callee.clauses 𝓤 H A mem run)
 
 module _ {M : Type 1} (𝓤 : URA M) (H : Heap 𝓤) (A : Atoms 𝓤) (W : Given 𝓤 H A) (mem : Memory → SProp 𝓤) (run : Routine → Fun 𝓤) (κ : Lft) (q : Share) (b o : ℕ) (γ : GName) (ys : List Motor) (κ₂ : Lft) (q₂ : Share) (b₂ o₂ : ℕ) (γ₂ : GName) (bs : List ℕ) (roomb : Room u8 (length bs)) (room : Room T.the-row (length ys)) where
   abbrev x : List Motor → RefT (List Motor)
@@ -74,20 +74,20 @@ module _ {M : Type 1} (𝓤 : URA M) (H : Heap 𝓤) (A : Atoms 𝓤) (W : Given
       nothing ! $ move ! (3 ∷ 0 ∷ []) $ join ! $ move ! (2 ∷ 0 ∷ []) $ join ! $ frame ! $ nothing ! $ move ! (2 ∷ 0 ∷ []) $ fjoin ! $
       move ! (1 ∷ 0 ∷ []) $ fjoin ! $ frame ! $ owned ! S.the-row (Is S.the-row) (EL.makes S.the-type S′.the-plain 𝓤 H A) r _ is $ done !
 
-  -- what the work is handed, and what it says of its result
-  abbrev to-callee : Callee 𝓤 H A mem run .Ghost
+  -- what the work is handed, and what it returns
+  abbrev to-callee : Work 𝓤 H A mem run .Ghost
   to-callee = (((κ₂, tt), (q₂, tt), tt, (copyOf ys, (length ys, (xb, tt))), (aval (copyOf ys) ∷ [], (vint w64 (length ys) ∷ [], (sb ∷ [], tt)))), tt)
 
-  goes-callee : Is Run256 (copyOf ys) (aval (copyOf ys) ∷ []) → ent 𝓤 (sep 𝓤 (A .lft κ₂ q₂) (sem 𝓤 H A OwnB)) (Callee 𝓤 H A mem run .pre to-callee)
+  goes-callee : Is Run256 (copyOf ys) (aval (copyOf ys) ∷ []) → ent 𝓤 (sep 𝓤 (A .lft κ₂ q₂) (sem 𝓤 H A OwnB)) (Work 𝓤 H A mem run .pre to-callee)
   goes-callee is =
       qed W (‵ (flft κ₂ q₂) ∷ ‵ OwnB ∷ []) ∵ nothing ! $ nothing ! $ move ! (3 ∷ 0 ∷ []) $ fjoin ! $
       owned ! usize (Is usize) (uint-makes 𝓤 H A W w64) (length ys) _ (refl, room .0) $ fjoin ! $ owned ! Run256 (Is Run256) (array-makes 𝓤 H A W T.the-row ((LL.makes T.the-type T′.the-plain) 𝓤 H A) 256) (copyOf ys) _ is $ fjoin ! $
       nothing ! $ move ! (3 ∷ 0 ∷ []) $ join ! $ join ! $ frame ! $ done !
 
-  callee-of : (r : Next) → ent 𝓤 (ensured 𝓤 H A callee.ended (callee.clauses 𝓤 H A mem run) (κ₂, tt) (copyOf ys, (length ys, (xb, tt))) tt r) (fact 𝓤 (r ≡ ofPlaces (length ys) (copyOf ys) (readOf (copyOf ys) bs)))
-  callee-of r = exE 𝓤 _ (λ ws. snd∗ 𝓤 (sem 𝓤 H A (lasts callee.ended (κ₂, tt) (copyOf ys, (length ys, (xb, tt))) ws)) (fact 𝓤 (r ≡ ofPlaces (length ys) (copyOf ys) (readOf (copyOf ys) bs))))
+  abbrev next : Next
+  next = ofPlaces (length ys) (copyOf ys) (readOf (copyOf ys) bs)
 
-  module _ (C : Calls 𝓤 H) (Λ : Loops 𝓤 H) (fm : FmC 𝓤 H (W .laws) C) (known-load : Triple 𝓤 (C #register·run·load) (Load 𝓤 H A mem run)) (known-work : Triple 𝓤 (C #register·work·read-form) (Callee 𝓤 H A mem run)) (known-store : Triple 𝓤 (C #register·run·store) (Store 𝓤 H A)) (l₀ l₁ l₂ l₃ l₄ l₅ l₆ l₇ l₈ l₉ l₁₀ : ℕ) where
+  module _ (C : Calls 𝓤 H) (Λ : Loops 𝓤 H) (fm : FmC 𝓤 H (W .laws) C) (known-load : Triple 𝓤 (C #register·run·load) (Load 𝓤 H A mem run)) (known-work : Triple 𝓤 (C #register·work·read-form) (Work 𝓤 H A mem run)) (known-store : Triple 𝓤 (C #register·run·store) (Store 𝓤 H A)) (l₀ l₁ l₂ l₃ l₄ l₅ l₆ l₇ l₈ l₉ l₁₀ : ℕ) where
     abbrev E : Env 𝓤 H
     E = (S′.mir, l₀) ∷ (slice, l₁) ∷ (bundle-ty, l₂) ∷ (N′.mir, l₃) ∷ (array, l₄) ∷ (ref-imm, l₅) ∷ (sliceTy ref-imm, l₆) ∷ (tyInt w64, l₇) ∷ (tyUnit, l₈) ∷ (ref-mut, l₉) ∷ (sliceTy ref-mut, l₁₀) ∷ []
 
@@ -108,26 +108,25 @@ module _ {M : Type 1} (𝓤 : URA M) (H : Heap 𝓤) (A : Atoms 𝓤) (W : Given
         assigns ! (of-opd ! (load ! (from ! (fld ! refl (stop !))) (look-in ! 2 (sub ! 1 refl (whole !))))) (from ! (stop !)) (init ! 8 refl (tt, record { fits = room .0 })) $
         -- the work on the copy
         move ! (14 ∷ []) $ use1 W (‵ OwnB ⊛ ‵ OwnB) (shr-slice-copy 𝓤 H A W (named 1) κ₂ u8 .twice xb (sb ∷ [])) $ split ! $
-        move ! (15 ∷ 0 ∷ []) $ use2 W (raw (Callee 𝓤 H A mem run .pre to-callee)) (goes-callee is) $
-        calls-at ! fm (Callee 𝓤 H A mem run) known-work to-callee (and-then ! (load ! (from ! (stop !)) (look ! 7 refl)) (and-then ! (load ! (from ! (stop !)) (look ! 10 refl)) (and-then ! (load ! (from ! (stop !)) (look ! 5 refl)) (no-more !)))) (λ w.
-        use1 W (later (some (λ (r : Next). ((‵ (flft κ₂ q₂) ⊛ ‵ ftrue) ⊛ ‵ (N.the-row .own r (w ∷ []))) ⊛ raw (ensured 𝓤 H A callee.ended (callee.clauses 𝓤 H A mem run) (κ₂, tt) (copyOf ys, (length ys, (xb, tt))) tt r)))) (id⊢ 𝓤 _) $ await ! tt $ pick ! (λ r.
-        split ! $ move ! (1 ∷ []) $ use1 W (raw (fact 𝓤 (r ≡ ofPlaces (length ys) (copyOf ys) (readOf (copyOf ys) bs)))) (callee-of r) $ heard ! (r ≡ ofPlaces (length ys) (copyOf ys) (readOf (copyOf ys) bs)) (λ f. split ! $ move ! (1 ∷ []) $ peeks ! N.the-row (Is N.the-row) (shows 𝓤 H A N.the-row) r (w ∷ []) (λ ir. drop ! $ split ! $
+        move ! (15 ∷ 0 ∷ []) $ use2 W (raw (Work 𝓤 H A mem run .pre to-callee)) (goes-callee is) $
+        answers 𝓤 H A callee.ended (callee.clauses 𝓤 H A mem run) W to-callee N′.lowered (N′.lowers .val-is) next (λ r z. id⊢ 𝓤 _) fm ! known-work (and-then ! (load ! (from ! (stop !)) (look ! 7 refl)) (and-then ! (load ! (from ! (stop !)) (look ! 10 refl)) (and-then ! (load ! (from ! (stop !)) (look ! 5 refl)) (no-more !)))) (λ ir.
+        use1 W (‵ (flft κ₂ q₂) ⊛ ‵ ftrue) (id⊢ 𝓤 _) $ split ! $
         keep ! (3 ∷ 4 ∷ 5 ∷ 6 ∷ 7 ∷ 8 ∷ 9 ∷ 10 ∷ 11 ∷ 12 ∷ 13 ∷ 14 ∷ 15 ∷ 0 ∷ 2 ∷ 16 ∷ 17 ∷ 18 ∷ 19 ∷ 20 ∷ 21 ∷ 22 ∷ 23 ∷ 24 ∷ 25 ∷ 26 ∷ []) $
-        land ! (from ! (stop !)) (init ! 4 refl (LL.lawful N.the-type N′.the-laws 𝓤 H A W .typed r _ ir .0)) $ rewrite ! 4 (λ (v : Val). ‵ (fat fullShare N′.mir l₃ 0 v)) (ap only (N′.lowers .val-is r _ ir)) refl $
+        land ! (from ! (stop !)) (init ! 4 refl (LL.lawful N.the-type N′.the-laws 𝓤 H A W .typed next _ ir .0)) $
         -- the copy is stored
         assigns ! (addr ! (from ! (fld ! refl (hop ! (look-in ! 2 (sub ! 0 refl (whole !))) (stop !))))) (from ! (stop !)) (init ! 10 refl (tt, tt)) $
         assigns ! (agg ! (and-then ! (load ! (from ! (stop !)) (look ! 10 refl)) (and-then ! (load ! (from ! (fld ! refl (stop !))) (look-in ! 2 (sub ! 1 refl (whole !)))) (no-more !)))) (from ! (stop !)) (init ! 11 refl (tt, (tt, (record { fits = room .0 }, tt)))) $
-        let fields = LL.owed N.the-type N′.the-laws r _ ir in
-        let listed : Is Run256 (r .motors) (aval (r .motors) ∷ []) = of-field 256 (r .motors) _ (fields .0) in
-        let answered : Is S.the-row (r .answer) (S′.lowered (r .answer) ∷ []) = subst (Is S.the-row (r .answer)) (S′.lowers .val-is (r .answer) _ (fields .1 .0)) (fields .1 .0) in
-        Thin.stores 𝓤 H A W mem run κ q b o γ ys room (r .motors) listed fm ! known-store (λ ν δ. (and-then ! (load ! (from ! (stop !)) (look ! 11 refl)) (and-then ! (load ! (from ! (fld ! refl (stop !))) (look-in ! 4 (sub ! 0 refl (whole !)))) (no-more !)))) (λ long.
+        let fields = LL.owed N.the-type N′.the-laws next _ ir in
+        let listed : Is Run256 (next .motors) (aval (next .motors) ∷ []) = of-field 256 (next .motors) _ (fields .0) in
+        let answered : Is S.the-row (next .answer) (S′.lowered (next .answer) ∷ []) = subst (Is S.the-row (next .answer)) (S′.lowers .val-is (next .answer) _ (fields .1 .0)) (fields .1 .0) in
+        Thin.stores 𝓤 H A W mem run κ q b o γ ys room (next .motors) listed fm ! known-store (λ ν δ. (and-then ! (load ! (from ! (stop !)) (look ! 11 refl)) (and-then ! (load ! (from ! (fld ! refl (stop !))) (look-in ! 4 (sub ! 0 refl (whole !)))) (no-more !)))) (λ long.
         land ! (from ! (stop !)) (init ! 9 refl (tt, tt)) $
-        assigns ! (of-opd ! (load ! (from ! (fld ! refl (stop !))) (look-in ! 4 (sub ! 1 refl (whole !))))) (from ! (stop !)) (init ! 12 refl (EL.lawful S.the-type S′.the-laws 𝓤 H A W tt .typed (r .answer) _ answered .0)) $
+        assigns ! (of-opd ! (load ! (from ! (fld ! refl (stop !))) (look-in ! 4 (sub ! 1 refl (whole !))))) (from ! (stop !)) (init ! 12 refl (EL.lawful S.the-type S′.the-laws 𝓤 H A W tt .typed (next .answer) _ answered .0)) $
         returns ! (look ! 12 refl) $ forget ! 2 refl $ forget ! 3 refl $ forget ! 4 refl $ forget ! 5 refl $ forget ! 6 refl $ forget ! 7 refl $ forget ! 8 refl $ forget ! 9 refl $ forget ! 10 refl $ forget ! 11 refl $ forget ! 12 refl $
         keep ! (12 ∷ 15 ∷ 2 ∷ 16 ∷ 3 ∷ 17 ∷ 4 ∷ 18 ∷ 5 ∷ 19 ∷ 6 ∷ 20 ∷ 7 ∷ 21 ∷ 8 ∷ 22 ∷ 9 ∷ 23 ∷ 10 ∷ 24 ∷ 11 ∷ 25 ∷ 0 ∷ 1 ∷ 13 ∷ 14 ∷ []) $ free1 ! $ free1 ! $ free1 ! $ free1 ! $ free1 ! $ free1 ! $ free1 ! $ free1 ! $ free1 ! $ free1 ! $ free1 ! $ free0 ! $
-        by ! (exits (r .answer) _ (storedOf ys (r .motors)) answered (settled (λ (l : List Motor). readOf l bs) (reading-refuses bs) ys r f) long)))))))
+        by ! (exits (next .answer) _ (storedOf ys (next .motors)) answered (settled (λ (l : List Motor). readOf l bs) (reading-refuses bs) ys next refl) long))))
 
-  module _ (C : Calls 𝓤 H) (Λ : Loops 𝓤 H) (fm : FmC 𝓤 H (W .laws) C) (known-load : Triple 𝓤 (C #register·run·load) (Load 𝓤 H A mem run)) (known-work : Triple 𝓤 (C #register·work·read-form) (Callee 𝓤 H A mem run)) (known-store : Triple 𝓤 (C #register·run·store) (Store 𝓤 H A)) where
+  module _ (C : Calls 𝓤 H) (Λ : Loops 𝓤 H) (fm : FmC 𝓤 H (W .laws) C) (known-load : Triple 𝓤 (C #register·run·load) (Load 𝓤 H A mem run)) (known-work : Triple 𝓤 (C #register·work·read-form) (Work 𝓤 H A mem run)) (known-store : Triple 𝓤 (C #register·run·store) (Store 𝓤 H A)) where
     walk : ent 𝓤 (onEntry 𝓤 H A self.signature (κ, (κ₂, tt)) (q, (q₂, tt)) a at) (WpFn 𝓤 H C Λ code.function (s ∷ sb ∷ []) Post)
     walk =
         qed W ((‵ (flft κ q) ⊛ (‵ (flft κ₂ q₂) ⊛ ‵ ftrue)) ∷ ‵ (owns (MutSlice (named 0) κ T.the-row ∷ ShrSlice (named 1) κ₂ u8 ∷ []) a at) ∷ []) ∵ enter ! C Λ code.function (s ∷ sb ∷ []) _ $
@@ -138,13 +137,13 @@ module _ {M : Type 1} (𝓤 : URA M) (H : Heap 𝓤) (A : Atoms 𝓤) (W : Given
         keep ! (5 ∷ 2 ∷ 24 ∷ 22 ∷ 20 ∷ 18 ∷ 16 ∷ 14 ∷ 12 ∷ 10 ∷ 8 ∷ 6 ∷ 26 ∷ 0 ∷ 3 ∷ 27 ∷ 25 ∷ 23 ∷ 21 ∷ 19 ∷ 17 ∷ 15 ∷ 13 ∷ 11 ∷ 9 ∷ 7 ∷ []) $
         works C Λ fm known-load known-work known-store l₀ l₁ l₂ l₃ l₄ l₅ l₆ l₇ l₈ l₉ l₁₀)))))))))))
 
-module _ {M : Type 1} (𝓤 : URA M) (H : Heap 𝓤) (A : Atoms 𝓤) (W : Given 𝓤 H A) (mem : Memory → SProp 𝓤) (run : Routine → Fun 𝓤) (C : Calls 𝓤 H) (Λ : Loops 𝓤 H) (fm : FmC 𝓤 H (W .laws) C) (known-load : Triple 𝓤 (C #register·run·load) (Load 𝓤 H A mem run)) (known-work : Triple 𝓤 (C #register·work·read-form) (Callee 𝓤 H A mem run)) (known-store : Triple 𝓤 (C #register·run·store) (Store 𝓤 H A)) where
+module _ {M : Type 1} (𝓤 : URA M) (H : Heap 𝓤) (A : Atoms 𝓤) (W : Given 𝓤 H A) (mem : Memory → SProp 𝓤) (run : Routine → Fun 𝓤) (C : Calls 𝓤 H) (Λ : Loops 𝓤 H) (fm : FmC 𝓤 H (W .laws) C) (known-load : Triple 𝓤 (C #register·run·load) (Load 𝓤 H A mem run)) (known-work : Triple 𝓤 (C #register·work·read-form) (Work 𝓤 H A mem run)) (known-store : Triple 𝓤 (C #register·run·store) (Store 𝓤 H A)) where
   walks : Walks 𝓤 H A self.ended stayed (WpFn 𝓤 H C Λ code.function) (self.clauses 𝓤 H A mem run)
   walks = walked 𝓤 H A self.ended stayed (self.clauses 𝓤 H A mem run) (WpFn 𝓤 H C Λ code.function) (λ κs. (slice-vals, (slice-vals, tt))) (λ κs. (mut-slice-tells (named 0) (κs .0) T.the-row, (shr-slice-tells (named 1) (κs .1 .0) u8, tt)))
       (λ κs qs bounds a g are. via 𝓤 _ (fst∗ 𝓤 _ (emp 𝓤)) (walk 𝓤 H A W mem run (κs .0) (qs .0) (a .0 .ptr .0) (a .0 .ptr .1) (a .0 .name) (a .0 .now) (κs .1 .0) (qs .1 .0) (a .1 .0 .ptr .0) (a .1 .0 .ptr .1) (a .1 .0 .name) (a .1 .0 .now) (are .1 .0 .0 .1) (are .0 .0 .1) C Λ fm known-load known-work known-store))
 
 meets : {M : Type 1} (𝓤 : URA M) (H : Heap 𝓤) (A : Atoms 𝓤) (W : Given 𝓤 H A) (mem : Memory → SProp 𝓤) (run : Routine → Fun 𝓤) (𝓣 : Tables 𝓤 H)
-    → Triple 𝓤 (𝓣 .C #register·run·load) (Load 𝓤 H A mem run) → Triple 𝓤 (𝓣 .C #register·work·read-form) (Callee 𝓤 H A mem run) → Triple 𝓤 (𝓣 .C #register·run·store) (Store 𝓤 H A)
+    → Triple 𝓤 (𝓣 .C #register·run·load) (Load 𝓤 H A mem run) → Triple 𝓤 (𝓣 .C #register·work·read-form) (Work 𝓤 H A mem run) → Triple 𝓤 (𝓣 .C #register·run·store) (Store 𝓤 H A)
     → Meets 𝓤 H A self.signature (WpFn 𝓤 H (𝓣 .C) (𝓣 .Λ) code.function) (self.spec 𝓤 H A mem run)
 meets 𝓤 H A W mem run 𝓣 known-load known-work known-store =
     walk-meets 𝓤 H A self.ended stayed W (goes-slice 𝓤 H A W 2 0 tt (plain (λ _. T.the-row)), (goes-none-slice 𝓤 H A W 2 (1 ∷ []) tt (plain (λ _. u8)) yes, tt)) (self.clauses 𝓤 H A mem run)
@@ -157,5 +156,5 @@ read-form-spec 𝓤 H 𝓜 𝓖 𝓡 =
     (tables 𝓤 H 𝓜 𝓡 code.env .C) (tables 𝓤 H 𝓜 𝓡 code.env .Λ) #register·run·read-form code.function (code.unfolded 𝓤 H 𝓜 𝓡)
     (meets 𝓤 H (𝓖 .A) (givenOf 𝓤 H 𝓜 𝓖) (𝓜 .mem) (𝓡 .run) (tablesOf 𝓤 H 𝓜 (tables 𝓤 H 𝓜 𝓡 code.env))
     (cited 𝓤 H (Load 𝓤 H (𝓖 .A) (𝓜 .mem) (𝓡 .run)) 𝓜 𝓡 code.env #register·run·load load-def.routine code.calls-register·run·load (load-thm.met 𝓤 H 𝓜 𝓖 𝓡))
-    (cited 𝓤 H (Callee 𝓤 H (𝓖 .A) (𝓜 .mem) (𝓡 .run)) 𝓜 𝓡 code.env #register·work·read-form callee-def.routine code.calls-register·work·read-form (callee-thm.met 𝓤 H 𝓜 𝓖 𝓡))
+    (cited 𝓤 H (Work 𝓤 H (𝓖 .A) (𝓜 .mem) (𝓡 .run)) 𝓜 𝓡 code.env #register·work·read-form callee-def.routine code.calls-register·work·read-form (callee-thm.met 𝓤 H 𝓜 𝓖 𝓡))
     (cited 𝓤 H (Store 𝓤 H (𝓖 .A)) 𝓜 𝓡 code.env #register·run·store store-def.routine code.calls-register·run·store (store-thm.met 𝓤 H 𝓜 𝓖 𝓡)))
