@@ -2,6 +2,8 @@
 ghost use mathlib.Core.Path.{_≡_};
 ghost use Rattle.motors.specs.Motor.{unread, earlierOf, isMotor, isLine, isNode, isReading, unreadPart, rightOf, blankOf, followsOf};
 
+// Laid out as C does, so that a host in C can lend a run of them.
+#[repr(C)]
 pub struct Motor {
     pub line: u8,
     // NodeID.
