@@ -16,7 +16,8 @@ use Rattle.line.specs.Telling.{said}
 use Rattle.line.specs.declared.reader.Stepped.{Stepped}
 use Rattle.line.specs.Reader.{isSound, endedWith, answeredBy, broken, begun, joined, fresh, stepped, stepOf, closeOf, refusing, runOf, ranOf, noBytes}
 use Rattle.line.specs.declared.reader.Reader.{Reader}
-use Rattle.line.specs.declared.reader.Answer.the-variants.{Nothing, Refused}
+use Rattle.line.specs.declared.reader.Answer.{Answer}
+use Rattle.line.specs.declared.reader.Answer.the-variants.{Nothing, Frame, Refused}
 
 module _ (r next : Reader) where
   pub ended-empty : r .count ≡ 0 → endedWith r next ≡ stepped next Nothing noBytes
@@ -64,6 +65,32 @@ told-alike r next other = go (eqb (r .count) 0) refl (ltb 31 (r .count)) refl
         let n = eqb-false (r .count) 0 t in
         rw (ended-read r next n (ltb-false 31 (r .count) v), ended-read r other n (ltb-false 31 (r .count) v))
         (same-told (readingOf (take (r .count) (r .kept))) (r .kept) next other)
+
+-- The answer says what stands beside it: a frame has its bytes, and any other answer none.
+abbrev pub beside : Answer → List ℕ → Reader → Stepped
+beside Nothing kept next = stepped next Nothing noBytes
+beside (Frame h n) kept next = stepped next (Frame h n) kept
+beside (Refused q) kept next = stepped next (Refused q) noBytes
+
+same-answer : (q : Reading) (kept : List ℕ) (next other : Reader) → answeredBy q kept next ≡ beside (answeredBy q kept other .answer) kept next
+same-answer (Reading.Frame h n) kept next other = refl
+same-answer (Reading.Refused r) kept next other = refl
+
+ended-by-answer : (r next other : Reader) → endedWith r next ≡ beside (endedWith r other .answer) (r .kept) next
+ended-by-answer r next other = go (eqb (r .count) 0) refl (ltb 31 (r .count)) refl
+  where
+    go : (t : Bool) → eqb (r .count) 0 ≡ t → (u : Bool) → ltb 31 (r .count) ≡ u → endedWith r next ≡ beside (endedWith r other .answer) (r .kept) next
+    go true t u v = rw (ended-empty r next (eqb-true (r .count) 0 t), ended-empty r other (eqb-true (r .count) 0 t))
+    go false t true v =
+        let n = eqb-false (r .count) 0 t in
+        rw (ended-too-long r next n (ltb-true 31 (r .count) v), ended-too-long r other n (ltb-true 31 (r .count) v))
+    go false t false v =
+        let n = eqb-false (r .count) 0 t in
+        rw (ended-read r next n (ltb-false 31 (r .count) v), ended-read r other n (ltb-false 31 (r .count) v))
+        (same-answer (readingOf (take (r .count) (r .kept))) (r .kept) next other)
+
+pub ended-as-answered : (r next other : Reader) {a : Answer} → endedWith r other .answer ≡ a → beside a (r .kept) next ≡ endedWith r next
+ended-as-answered r next other e = sym (ended-by-answer r next other ∙ ap (λ (a : Answer). beside a (r .kept) next) e)
 
 module _ (r : Reader) (byte silence : ℕ) where
   pub step-broken : isSound r ≡ false → stepOf r byte silence ≡ broken r

@@ -134,22 +134,36 @@ impl Reader {
     fn ended(self, next: Reader) -> Stepped
         ensures { λ r. ⌜ r ≡ endedWith self next ⌝ }
     {
+        let answer = self.judged();
+        match answer {
+            Answer::Frame(_, _) => {
+                let kept = self.kept;
+                Stepped {
+                    reader: next,
+                    answer,
+                    bundle: kept,
+                }
+            }
+            _ => next.answering(answer),
+        }
+    }
+
+    // What the open bundle is answered by when it ends.
+    fn judged(self) -> Answer
+        ensures { λ r. ⌜ r ≡ endedWith self fresh .answer ⌝ }
+    {
         let kept = self.kept;
         let count = self.count;
         if count == 0 {
-            return next.answering(Answer::Nothing);
+            return Answer::Nothing;
         }
         if count > 31 {
-            return next.answering(Answer::Refused(Refusal::TooLong));
+            return Answer::Refused(Refusal::TooLong);
         }
         let reading = read(&kept[..count]);
         match reading {
-            Reading::Frame(header, content) => Stepped {
-                reader: next,
-                answer: Answer::Frame(header, content),
-                bundle: kept,
-            },
-            Reading::Refused(reason) => next.answering(Answer::Refused(reason)),
+            Reading::Frame(header, content) => Answer::Frame(header, content),
+            Reading::Refused(reason) => Answer::Refused(reason),
         }
     }
 

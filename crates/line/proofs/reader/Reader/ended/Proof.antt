@@ -1,78 +1,57 @@
--- An empty bundle gives nothing, one of over 31 bytes is too long, and any other is read.
+-- The answer of the bundle that ended, and beside it the bytes of a frame.
 -- Assumes nothing.
 use borrow.Author.Needs.{needs}
+use denote.Enum.Declared.{tagOf}
+use Prim.Native.Nat.{ℕ}
 use native.Mathlib.Omega.{arith}
-use mathlib.Core.Path.{_≡_, _∙_, sym}
-use lib.ListN.{length, length-map, length-take}
-use Rattle.line.proofs.Steps.{ended-empty, ended-too-long, ended-as}
+use mathlib.Core.Path.{_≡_, refl, _∙_, sym}
+use mathlib.Core.Logic.{_⊎_, inl, inr}
+use mathlib.Core.List.{List}
+use Rattle.line.specs.Reader.{fresh, stepped, noBytes}
+use Rattle.line.specs.declared.reader.Reader.{Reader}
+use Rattle.line.specs.declared.reader.Answer.{Answer}
+use Rattle.line.specs.declared.reader.Answer.the-variants.{Nothing, Frame, Refused}
+use Rattle.line.proofs.reader.Answer.{the-type}
+use Rattle.line.proofs.Steps.{beside, ended-as-answered}
 use Rattle.line.proofs.reader.Reader.ended.Statement.{statement}
 use Rattle.line.proofs.reader.Reader.ended.Tie as tie
 
-len : (c : tie.Start) → length (c .args .self .kept) ≡ 31
-len c = simp length-map at (c .good .0 .1 .1 .0 .1 .0 .1)
+-- The arms are told apart by the answer's number: a frame's is 1.
+frame : (a : Answer) (kept : List ℕ) (next : Reader) → tagOf the-type a ≡ 1 → stepped next a kept ≡ beside a kept next
+frame Nothing kept next e = absurd (omega arith)
+frame (Frame h n) kept next e = refl
+frame (Refused q) kept next e = absurd (omega arith)
+
+no-frame : (a : Answer) (kept : List ℕ) (next : Reader) → (tagOf the-type a ≡ 0) ⊎ (tagOf the-type a ≡ 2) → stepped next a noBytes ≡ beside a kept next
+no-frame Nothing kept next e = refl
+no-frame (Frame h n) kept next (inl e) = absurd (omega arith)
+no-frame (Frame h n) kept next (inr e) = absurd (omega arith)
+no-frame (Refused q) kept next e = refl
+
+judged-requires : tie.Need-judged-requires
+judged-requires c κs = search needs
+
+enum-told : tie.Need-enum-told
+enum-told c = search needs
 
 answering-requires : tie.Need-answering-requires
 answering-requires c κs = search needs
 
 returns : tie.Need-returns
 returns c =
-    let t = c .before in
-    let x = t .before .before .args in
-    c .answering .ensures ∙ sym (ended-empty (x .self) (x .next) (t .if1 .taken))
-
-answering-requires-2 : tie.Need-answering-requires-2
-answering-requires-2 c κs = search needs
+    let m = c .before .before in
+    let j = m .before in
+    let x = j .before .args in
+    frame (j .judged .result) (x .self .kept) (x .next) (m .match .keys1) ∙ ended-as-answered (x .self) (x .next) fresh (sym (j .judged .ensures))
 
 returns-2 : tie.Need-returns-2
 returns-2 c =
-    let t = c .before .before in
-    let x = t .before .before .args in
-    c .answering2 .ensures ∙ sym (ended-too-long (x .self) (x .next) (t .if1 .left) (omega arith))
-
-array-share-prefix-kept : tie.Need-array-share-prefix-kept
-array-share-prefix-kept c = let n = len (c .before .before .before) in omega arith
-
-slice-aggregate-read : tie.Need-slice-aggregate-read
-slice-aggregate-read c = let n = len (c .before .before .before .before) in simp length-take (omega arith)
-
-read-requires : tie.Need-read-requires
-read-requires c κs = search needs
-
-enum-known-reading : tie.Need-enum-known-reading
-enum-known-reading c = search needs
-
-enum-known-reading-2 : tie.Need-enum-known-reading-2
-enum-known-reading-2 c = search needs
-
-answering-requires-3 : tie.Need-answering-requires-3
-answering-requires-3 c κs = search needs
-
-returns-3 : tie.Need-returns-3
-returns-3 c =
-    let s = c .before .before .before in
-    let x = s .before .before .before .before .before .args in
-    ended-as (x .self) (x .next) (s .before .before .before .if1 .left) (omega arith) (sym (s .read .ensures) ∙ c .before .reading .given .1)
-
-returns-4 : tie.Need-returns-4
-returns-4 c =
-    let s = c .before .before .before .before in
-    let x = s .before .before .before .before .before .args in
-    c .answering3 .ensures
-    ∙ ended-as (x .self) (x .next) (s .before .before .before .if1 .left) (omega arith) (sym (s .read .ensures) ∙ c .before .before .reading2 .given .1)
+    let m = c .before in
+    let j = m .before in
+    let x = j .before .args in
+    c .answering .ensures
+    ∙ no-frame (j .judged .result) (x .self .kept) (x .next) (m .match .keys2)
+    ∙ ended-as-answered (x .self) (x .next) fresh (sym (j .judged .ensures))
 
 pub ended-spec : {M : Type 1} → statement M
-ended-spec =
-    tie.close
-    (tie.spec
-    answering-requires
-    returns
-    answering-requires-2
-    returns-2
-    array-share-prefix-kept
-    slice-aggregate-read
-    read-requires
-    enum-known-reading
-    enum-known-reading-2
-    answering-requires-3
-    returns-3
-    returns-4)
+ended-spec = tie.close (tie.spec judged-requires enum-told answering-requires returns returns-2)
