@@ -11,12 +11,12 @@ use borrow.Author.Tests.{leb-true, leb-false, le-leb, eqb-true, ltb-true}
 use lib.Dec.{leb, ltb, eqb}
 use lib.ListN.{length, drop, set, replicate, length-set}
 use lib.Seq.{drop-cons, drop-set-lt}
-use Rattle.meaning.specs.Choice.{if_then_else_, false-is-not-true}
+use Rattle.meaning.specs.Choice.{if_then_else_}
 use Rattle.line.specs.Telling.{Entry, after, readerAfter}
 use Rattle.line.specs.Reader.{fresh, reader, begun, noBytes, allZeros, isSound, joined, stepped, stepOf}
 use Rattle.line.specs.declared.reader.Reader.{Reader}
 use Rattle.line.specs.declared.reader.Answer.the-variants.{Nothing}
-use Rattle.line.proofs.Zeros.{zeros-end}
+use Rattle.line.proofs.Zeros.{zeros-end, both}
 use Rattle.line.proofs.Steps.{ended-empty, goes-on-as, step-ends, step-joins}
 
 -- Row 9 as facts, and the length of the kept bytes, which the type says.
@@ -24,10 +24,6 @@ pub record Sound (r : Reader) : Type 0 where
   pub counted : r .count ≤ 32
   pub zeros : allZeros (drop (r .count) (r .kept)) ≡ true
   pub kept-31 : length (r .kept) ≡ 31
-
-both : (s t : Bool) → (if s then t else false) ≡ true → (s ≡ true) × (t ≡ true)
-both true t e = (refl, e)
-both false t e = absurd (false-is-not-true e)
 
 pub sound-facts : (r : Reader) → length (r .kept) ≡ 31 → isSound r ≡ true → Sound r
 sound-facts r n e =

@@ -1,4 +1,5 @@
 // The line reader: fed a byte at a time with the silence before it, or over two lent runs, it answers for each bundle that has ended.
+mod beyond;
 mod reader;
 
 pub use reader::Answer;

@@ -1,4 +1,5 @@
 // The reader is a value that each step takes in and hands back.
+use crate::beyond::are_zeros;
 use frame::Header;
 use frame::Reading;
 use frame::read;
@@ -195,14 +196,8 @@ impl Reader {
         if count > 32 {
             return false;
         }
-        let mut i = count;
-        while i < 31 {
-            if self.kept[i] != 0 {
-                return false;
-            }
-            i += 1;
-        }
-        true
+        let kept = self.kept;
+        are_zeros(&kept, count)
     }
 }
 
