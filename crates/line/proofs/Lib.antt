@@ -1,6 +1,7 @@
 pub mod Zeros
 pub mod Steps
 pub mod Sound
+pub mod Joining
 pub mod Running
 pub mod Parts
 pub mod Apart

@@ -6,7 +6,7 @@ use native.Mathlib.Numerals.{add-one}
 use mathlib.Core.Path.{_≡_, refl, _∙_}
 use mathlib.Core.Logic.{_⊎_, inl, inr}
 use mathlib.Core.Bool.{Bool, true, false}
-use mathlib.Core.List.{List, [], _∷_}
+use mathlib.Core.List.{List, [], _∷_, foldl}
 use borrow.Author.Tests.{leb-true, leb-false, le-leb, eqb-true, ltb-true}
 use lib.Dec.{leb, ltb, eqb}
 use lib.ListN.{length, drop, set, replicate, length-set}
@@ -59,6 +59,10 @@ sound-joined r byte s = go (ltb (r .count) 31) refl
           kept-31 = simp length-set n;
         }
     go false t = let n = s .kept-31 in record { counted = omega arith; zeros = zeros-end (r .kept) 32 (omega arith); kept-31 = n }
+
+pub sound-all : (r : Reader) (part : List ℕ) → Sound r → Sound (foldl joined r part)
+sound-all r [] s = s
+sound-all r (byte ∷ part) s = sound-all (joined r byte) part (sound-joined r byte s)
 
 -- With no bundle open a byte begins one, whatever the silence before it.
 first-joins : (r : Reader) (byte : ℕ) → Sound r → r .count ≡ 0 → joined r byte ≡ begun byte

@@ -6,9 +6,11 @@ use frame::read;
 use refusal::Refusal;
 ghost use mathlib.Core.Path.{_≡_};
 ghost use mathlib.Core.Bool.{true};
-ghost use Prim.Native.Nat.{_≤_};
-ghost use lib.ListN.{length, drop};
-ghost use Rattle.line.specs.Reader.{stepped, noBytes, fresh, begun, isSound, keptAfter, countAfter, endedWith, stepOf, closeOf, refusing, runOf, ranOf};
+ghost use mathlib.Core.Logic.{_≢_, _⊎_};
+ghost use mathlib.Core.List.{foldl};
+ghost use Prim.Native.Nat.{ℕ, _+_, _-_, _≤_, _<_};
+ghost use lib.ListN.{length, getD, take, drop};
+ghost use Rattle.line.specs.Reader.{reader, joined, stepped, noBytes, fresh, begun, isSound, keptAfter, countAfter, endedWith, stepOf, closeOf, refusing, runOf, ranOf};
 
 pub struct Reader {
     // The bundle's first bytes, at most 31, then zeros.
@@ -103,32 +105,28 @@ impl Reader {
         Ran { stepped, place }
     }
 
-    // A sound reader stays sound, so row 9 is checked once, and each byte is only laid among the kept.
+    // A sound reader stays sound, so row 9 is checked once, and all the bytes up to the one that ends the bundle are laid among the kept at once.
     fn go_on(self, bytes: &[u8], silences: &[u16], place: usize) -> Ran
         requires { ⌜ (isSound self ≡ true) × (length (now bytes) ≡ length (now silences)) × (place ≤ length (now bytes)) ⌝ }
         ensures { λ r. ⌜ r ≡ runOf self (drop place (now (bytes .entry))) (drop place (now (silences .entry))) place ⌝ }
     {
+        let from = first_to_end_it(self.count, place, silences.len());
+        let end = bundle_end(silences, from);
         let mut kept = self.kept;
-        let mut count = self.count;
-        let mut i = place;
-        while i < bytes.len() {
-            let byte = bytes[i];
-            if count != 0 {
-                if silences[i] >= ENDING {
-                    let open = Reader { kept, count };
-                    let stepped = open.ended(Reader::begun(byte));
-                    return Ran {
-                        stepped,
-                        place: i + 1,
-                    };
-                }
-            }
-            count = lay_in(&mut kept, count, byte);
-            i += 1;
+        let count = lay_all(&mut kept, self.count, &bytes[place..end]);
+        let open = Reader { kept, count };
+        if end < bytes.len() {
+            let stepped = open.ended(Reader::begun(bytes[end]));
+            return Ran {
+                stepped,
+                place: end + 1,
+            };
         }
-        let reader = Reader { kept, count };
-        let stepped = reader.answering(Answer::Nothing);
-        Ran { stepped, place: i }
+        let stepped = open.answering(Answer::Nothing);
+        Ran {
+            stepped,
+            place: end,
+        }
     }
 
     // The open bundle ends, and the reader goes on as `next`.
@@ -210,4 +208,66 @@ fn lay_in(kept: &mut [u8; 31], count: usize, byte: u8) -> usize
         return count + 1;
     }
     32
+}
+
+// An empty bundle takes its first byte whatever the silence before it.
+fn first_to_end_it(count: usize, place: usize, end: usize) -> usize
+    requires { ⌜ place ≤ end ⌝ }
+    ensures { λ r. ⌜ (place ≤ r) × (r ≤ end) × (((r ≡ place) × ((count ≢ 0) ⊎ (place ≡ end))) ⊎ ((r ≡ place + 1) × (count ≡ 0))) ⌝ }
+{
+    if count == 0 {
+        if place < end {
+            return place + 1;
+        }
+    }
+    place
+}
+
+// The first silence from here on that ends a bundle, or the end of them all.
+fn bundle_end(silences: &[u16], from: usize) -> usize
+    requires { ⌜ from ≤ length (now silences) ⌝ }
+    ensures { λ r. ⌜ (from ≤ r) × (r ≤ length (now (silences .entry))) × ((k : ℕ) → from ≤ k → k < r → getD (now (silences .entry)) k 0 < 30) × (r < length (now (silences .entry)) → 30 ≤ getD (now (silences .entry)) r 0) ⌝ }
+{
+    let mut i = from;
+    while i < silences.len() {
+        if silences[i] >= ENDING {
+            return i;
+        }
+        i += 1;
+    }
+    i
+}
+
+// The bytes of a part join the open bundle.
+fn lay_all(kept: &mut [u8; 31], count: usize, part: &[u8]) -> usize
+    ensures { λ r. ⌜ reader (now (kept .exit)) r ≡ foldl joined (reader (now (kept .entry)) count) (now (part .entry)) ⌝ }
+{
+    let room = room_behind(count);
+    if part.len() > room {
+        lay_first(kept, count, part, room);
+        return 32;
+    }
+    lay_first(kept, count, part, part.len());
+    count + part.len()
+}
+
+fn room_behind(count: usize) -> usize
+    ensures { λ r. ⌜ r ≡ 31 - count ⌝ }
+{
+    if count > 31 {
+        return 0;
+    }
+    31 - count
+}
+
+// So many of a part's first bytes, for which there is room.
+fn lay_first(kept: &mut [u8; 31], at: usize, part: &[u8], n: usize)
+    requires { ⌜ (n ≤ 31 - at) × (n ≤ length (now part)) ⌝ }
+    ensures { λ _. ⌜ reader (now (kept .exit)) (at + n) ≡ foldl joined (reader (now (kept .entry)) at) (take n (now (part .entry))) ⌝ }
+{
+    let mut i: usize = 0;
+    while i < n {
+        kept[at + i] = part[i];
+        i += 1;
+    }
 }

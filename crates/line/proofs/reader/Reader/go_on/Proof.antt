@@ -1,122 +1,130 @@
--- The run from here is the run from the start; the reader stays sound.
+-- The bytes up to the one that ends the bundle all join, and that one ends it.
 -- Assumes nothing.
 use borrow.Author.Needs.{needs}
-use Prim.Native.Nat.{_≤_, _-_}
+use Prim.Native.Nat.{_-_, _<_}
 use native.Mathlib.Omega.{arith}
-use mathlib.Core.Path.{_≡_, refl, _∙_, sym, ap, ap₂}
-use mathlib.Core.Logic.{inl, inr, ⊎-elim}
+use mathlib.Core.Path.{_≡_, _∙_, sym, ap}
+use mathlib.Core.Logic.{_≢_}
 use mathlib.Core.Bool.{false}
-use lib.ListN.{length, getD, drop, length-map}
-use Rattle.line.specs.Reader.{reader, ran, joined, stepped, goesOn, endedWith, stepOf, runOf, noBytes}
+use lib.ListN.{length, getD, take, drop, length-map}
+use Rattle.line.specs.Reader.{reader, ran, goesOn, endedWith, stepOf, runOf}
 use Rattle.line.specs.declared.reader.Reader.{Reader}
 use Rattle.line.specs.declared.reader.Stepped.{Stepped}
-use Rattle.line.specs.declared.reader.Answer.the-variants.{Nothing}
-use Rattle.line.proofs.Sound.{Sound, sound-facts, is-sound, sound-joined, goes-on}
-use Rattle.line.proofs.Running.{one-more, last-one, at-end, ended-stops}
+use Rattle.line.proofs.Sound.{Sound, sound-facts, is-sound, sound-all}
+use Rattle.line.proofs.Running.{last-one, at-end, ended-stops, to-end, open-there}
 use Rattle.line.proofs.Steps.{step-ends}
 use Rattle.line.proofs.reader.Reader.go_on.Statement.{statement}
 use Rattle.line.proofs.reader.Reader.go_on.Tie as tie
 
-abbrev Inv-loop : tie.InvT-loop
-Inv-loop bytes silences place kept₀ count₀ i₀ kept count i =
-    (i ≤ length bytes)
-    × Sound (reader kept count)
-    × (runOf (reader kept count) (drop i bytes) (drop i silences) i ≡ runOf (reader kept₀ count₀) (drop place bytes) (drop place silences) place)
-
-abbrev μ-loop : tie.MeasureT-loop
-μ-loop bytes silences place kept₀ count₀ i₀ kept count i = length bytes - i
-
-len : (c : tie.Start Inv-loop μ-loop) → length (c .args .self .kept) ≡ 31
+len : (c : tie.Start) → length (c .args .self .kept) ≡ 31
 len c = simp length-map at (c .good .0 .1 .1 .0 .1 .0 .1)
 
-loop-holds : tie.Need-loop-holds Inv-loop μ-loop
-loop-holds c =
-    let start = c .before .before .before in
-    (search needs, sound-facts (start .args .self) (len start) (start .pre .0), refl)
+begins-sound : (c : tie.Start) → Sound (c .args .self)
+begins-sound c = sound-facts (c .args .self) (len c) (c .pre .0)
 
-shared-slice-read-byte : tie.Need-shared-slice-read-byte Inv-loop μ-loop
-shared-slice-read-byte c = search needs
+-- The reader that the bytes have joined.
+abbrev after : tie.After-lay-all → Reader
+after c = reader (c .lay-all .last .0) (c .lay-all .result)
 
-mul-if2 : tie.Need-mul-if2 Inv-loop μ-loop
-mul-if2 c = search needs
+sound : (c : tie.After-lay-all) → Sound (after c)
+sound c =
+    let e = c .before .before .before .before in
+    let start = e .before .before .before .before in
+    let x = start .args in
+    rw (c .lay-all .ensures) (sound-all (x .self) (take (e .bundle-end .result - x .place) (drop (x .place) (x .bytes .now))) (begins-sound start))
 
-shared-slice-read-if2 : tie.Need-shared-slice-read-if2 Inv-loop μ-loop
-shared-slice-read-if2 c = search needs
+is-open : (c : tie.After-lay-all) → c .before .before .before .before .bundle-end .result < length (c .before .before .before .before .before .before .before .before .args .bytes .now)
+    → after c .count ≢ 0
+is-open c h none =
+    let e = c .before .before .before .before in
+    let f = e .before in
+    let x = f .before .before .before .args in
+    open-there (x .bytes .now) (x .silences .now) (omega arith) (x .self) (x .place) (f .first-to-end-it .result) (e .bundle-end .result) (omega arith) (omega arith)
+    (f .first-to-end-it .ensures .2) h (sym (ap (λ (r : Reader). r .count) (c .lay-all .ensures)) ∙ none)
 
-begun-requires : tie.Need-begun-requires Inv-loop μ-loop
+goes : (c : tie.After-lay-all) → let e = c .before .before .before .before in let x = e .before .before .before .before .args in
+    runOf (x .self) (drop (x .place) (x .bytes .now)) (drop (x .place) (x .silences .now)) (x .place)
+    ≡ runOf (after c) (drop (e .bundle-end .result) (x .bytes .now)) (drop (e .bundle-end .result) (x .silences .now)) (e .bundle-end .result)
+goes c =
+    let e = c .before .before .before .before in
+    let f = e .before in
+    let start = f .before .before .before in
+    let x = start .args in
+    let j = e .bundle-end .result in
+    to-end (x .bytes .now) (x .silences .now) (omega arith) (x .self) (x .place) (f .first-to-end-it .result) j (omega arith) (omega arith) (begins-sound start)
+    (f .first-to-end-it .ensures .2) (e .bundle-end .ensures .2)
+    ∙ ap (λ (r : Reader). runOf r (drop j (x .bytes .now)) (drop j (x .silences .now)) j) (sym (c .lay-all .ensures))
+
+first-to-end-it-requires : tie.Need-first-to-end-it-requires
+first-to-end-it-requires c κs = search needs
+
+bundle-end-requires : tie.Need-bundle-end-requires
+bundle-end-requires c κs = omega arith
+
+sub-lay-all : tie.Need-sub-lay-all
+sub-lay-all c = omega arith
+
+part-lay-all-start : tie.Need-part-lay-all-start
+part-lay-all-start c = omega arith
+
+part-lay-all-end : tie.Need-part-lay-all-end
+part-lay-all-end c = search needs
+
+lay-all-requires : tie.Need-lay-all-requires
+lay-all-requires c κs = search needs
+
+shared-slice-read-begun : tie.Need-shared-slice-read-begun
+shared-slice-read-begun c = search needs
+
+begun-requires : tie.Need-begun-requires
 begun-requires c κs = search needs
 
-ended-requires : tie.Need-ended-requires Inv-loop μ-loop
+ended-requires : tie.Need-ended-requires
 ended-requires c κs = search needs
 
-add-t23 : tie.Need-add-t23 Inv-loop μ-loop
-add-t23 c = search needs
+add-t22 : tie.Need-add-t22
+add-t22 c = search needs
 
-returns : tie.Need-returns Inv-loop μ-loop
+returns : tie.Need-returns
 returns c =
-    let t = c .before .before .before .before in
-    let l = t .before .before .before in
-    let x = l .before .before .before .before .args in
-    let r = reader (l .loop .kept) (l .loop .count) in
-    let byte = getD (x .bytes .now) (l .loop .i) 0 in
-    let ends : stepOf r byte (getD (x .silences .now) (l .loop .i) 0) ≡ c .ended .result =
-    step-ends r byte (getD (x .silences .now) (l .loop .i) 0) (is-sound r (l .loop .inv .1)) (c .before .before .if2 .taken)
+    let l = c .before .before .before .before in
+    let e = l .before .before .before .before in
+    let x = e .before .before .before .before .args in
+    let j = e .bundle-end .result in
+    let r = after l in
+    let byte = getD (x .bytes .now) j 0 in
+    let ends : stepOf r byte (getD (x .silences .now) j 0) ≡ c .ended .result =
+    step-ends r byte (getD (x .silences .now) j 0) (is-sound r (sound l)) (e .bundle-end .ensures .3 (omega arith))
     ∙ ap (λ (next : Reader). endedWith r next) (sym (c .before .begun .ensures)) ∙ sym (c .ended .ensures) in
-    let stops : goesOn (c .ended .result .answer) ≡ false = ap (λ (s : Stepped). goesOn (s .answer)) (c .ended .ensures) ∙ ended-stops r (c .before .begun .result) (t .if1 .taken) in
-    sym (last-one r (x .bytes .now) (x .silences .now) (l .loop .i) (c .ended .result) (omega arith) (omega arith) ends stops) ∙ l .loop .inv .2
+    let stops : goesOn (c .ended .result .answer) ≡ false =
+    ap (λ (s : Stepped). goesOn (s .answer)) (c .ended .ensures) ∙ ended-stops r (c .before .begun .result) (is-open l (omega arith)) in
+    sym (goes l ∙ last-one r (x .bytes .now) (x .silences .now) j (c .ended .result) (omega arith) (omega arith) ends stops)
 
-lay-in-requires : tie.Need-lay-in-requires Inv-loop μ-loop
-lay-in-requires c κs = search needs
-
-add-i : tie.Need-add-i Inv-loop μ-loop
-add-i c = search needs
-
-loop-less : tie.Need-loop-less Inv-loop μ-loop
-loop-less c = search needs
-
-loop-again : tie.Need-loop-again Inv-loop μ-loop
-loop-again c =
-    let j = c .before .before in
-    let l = j .before .before .before in
-    let x = l .before .before .before .before .args in
-    let r = reader (l .loop .kept) (l .loop .count) in
-    let byte = getD (x .bytes .now) (l .loop .i) 0 in
-    let next : reader (c .lay-in .last .0) (c .lay-in .result) ≡ joined r byte = ap₂ reader (c .lay-in .ensures .1) (c .lay-in .ensures .0) in
-    let goes : stepOf r byte (getD (x .silences .now) (l .loop .i) 0) ≡ stepped (joined r byte) Nothing noBytes =
-    goes-on r byte (getD (x .silences .now) (l .loop .i) 0) (l .loop .inv .1) (⊎-elim (λ w. inr (w .2 .left)) (λ w. inl (w .left)) (j .if1 .came)) in (
-      search needs,
-      rw next (sound-joined r byte (l .loop .inv .1)),
-      rw next (sym (one-more r (x .bytes .now) (x .silences .now) (l .loop .i) (joined r byte) (omega arith) (omega arith) goes) ∙ l .loop .inv .2),
-    )
-
-answering-requires : tie.Need-answering-requires Inv-loop μ-loop
+answering-requires : tie.Need-answering-requires
 answering-requires c κs = search needs
 
-returns-2 : tie.Need-returns-2 Inv-loop μ-loop
+returns-2 : tie.Need-returns-2
 returns-2 c =
     let l = c .before .before in
-    let x = l .before .before .before .before .args in
-    ap (λ (s : Stepped). ran s (l .loop .i)) (c .answering .ensures)
-    ∙ sym (at-end (reader (l .loop .kept) (l .loop .count)) (x .bytes .now) (x .silences .now) (l .loop .i) (omega arith))
-    ∙ l .loop .inv .2
+    let e = l .before .before .before .before in
+    let x = e .before .before .before .before .args in
+    let j = e .bundle-end .result in
+    ap (λ (s : Stepped). ran s j) (c .answering .ensures) ∙ sym (goes l ∙ at-end (after l) (x .bytes .now) (x .silences .now) j (omega arith))
 
 pub go-on-spec : {M : Type 1} → statement M
 go-on-spec =
     tie.close
     (tie.spec
-    Inv-loop
-    μ-loop
-    loop-holds
-    shared-slice-read-byte
-    mul-if2
-    shared-slice-read-if2
+    first-to-end-it-requires
+    bundle-end-requires
+    sub-lay-all
+    part-lay-all-start
+    part-lay-all-end
+    lay-all-requires
+    shared-slice-read-begun
     begun-requires
     ended-requires
-    add-t23
+    add-t22
     returns
-    lay-in-requires
-    add-i
-    loop-less
-    loop-again
     answering-requires
     returns-2)
