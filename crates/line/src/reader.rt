@@ -223,13 +223,28 @@ fn first_to_end_it(count: usize, place: usize, end: usize) -> usize
     place
 }
 
-// The first silence from here on that ends a bundle, or the end of them all.
+// The first silence from here on that ends a bundle, or the end of them all: eight at a time, which the compiler writes out.
 fn bundle_end(silences: &[u16], from: usize) -> usize
     requires { ⌜ from ≤ length (now silences) ⌝ }
     ensures { λ r. ⌜ (from ≤ r) × (r ≤ length (now (silences .entry))) × ((k : ℕ) → from ≤ k → k < r → getD (now (silences .entry)) k 0 < 30) × (r < length (now (silences .entry)) → 30 ≤ getD (now (silences .entry)) r 0) ⌝ }
 {
     let mut i = from;
-    while i < silences.len() {
+    while silences.len() - i >= 8 {
+        let found = first_ending(silences, i, i + 8);
+        if found < i + 8 {
+            return found;
+        }
+        i += 8;
+    }
+    first_ending(silences, i, silences.len())
+}
+
+fn first_ending(silences: &[u16], from: usize, end: usize) -> usize
+    requires { ⌜ (from ≤ end) × (end ≤ length (now silences)) ⌝ }
+    ensures { λ r. ⌜ (from ≤ r) × (r ≤ end) × ((k : ℕ) → from ≤ k → k < r → getD (now (silences .entry)) k 0 < 30) × (r < end → 30 ≤ getD (now (silences .entry)) r 0) ⌝ }
+{
+    let mut i = from;
+    while i < end {
         if silences[i] >= ENDING {
             return i;
         }
