@@ -53,7 +53,9 @@ static uint64_t answer_worth(const struct bundle_answer *answer)
 {
     if (!answer->ended)
         return 0;
-    return answer->refusal == ACCEPTED ? FRAME_WORTH : (uint64_t)answer->refusal;
+    if (answer->refusal != ACCEPTED)
+        return (uint64_t)answer->refusal;
+    return FRAME_WORTH + (uint64_t)inverted(answer->bundle.bytes[0]) + answer->bundle.bytes[10];
 }
 
 static uint64_t second_reader(const struct workload *work)
