@@ -6,7 +6,7 @@ use mathlib.Core.Path.{_≡_}
 use mathlib.Core.List.{List}
 use lib.ListN.{length}
 use Rattle.frame.proofs.Frames.{frame-exactly-when}
-use Rattle.frame.proofs.Buffers.{written-exactly-when, read-of-written, written-of-read}
+use Rattle.frame.proofs.Buffers.{written-exactly-when, writable-is-written, untouched-before, untouched-behind, length-kept, read-of-written, written-of-read}
 use Rattle.travel.specs.Position.{percent-nearest, pulse-nearest, there-and-back}
 use Rattle.board.proofs.Ranges.{sound-exactly-when}
 use Rattle.node.proofs.Laws.{meant-is-carried-out, not-meant-is-silent, a-reply-message-is-never-answered, every-state-passes-row-33-again, every-reply-is-a-frame-to-the-asker}
@@ -21,6 +21,7 @@ use Rattle.motors.proofs.StrikingLaws.{the-motor-struck-out-is-gone, every-othe
 use Rattle.motors.proofs.StrikingLaws as striking
 use Rattle.form.proofs.FormLaws.{a-register-written-and-read-again-is-the-same, a-form-read-and-written-again-is-the-same, an-accepted-form-gives-a-sound-register}
 use Rattle.promises.specs.Demand2.{Filed, StruckOut, Demand2}
+use Rattle.promises.proofs.GroupTable.{group-table}
 use Rattle.promises.proofs.Fileable.{filed-exactly-when, struck-exactly-when}
 
 filed : (run : List Motor) (count line : ℕ) (b : List ℕ) (n : ℕ) → filedOf run count line b .answer ≡ Count n
@@ -52,17 +53,22 @@ kept =
             frame-exactly-when-the-rules-hold = frame-exactly-when;
             written-again-it-gives-its-own-bytes = written-of-read;
             written-exactly-when-in-range = λ buffer. written-exactly-when (length buffer);
-            what-is-written-is-read = read-of-written;
+            frame-written-is-read = read-of-written;
+            the-answer-is-the-place-after-the-frame = λ buffer. writable-is-written (length buffer);
+            no-byte-before-the-frame-is-changed = untouched-before;
+            no-byte-behind-the-frame-is-changed = untouched-behind;
+            the-buffer-keeps-its-length = length-kept;
           };
       board =
           record {
             sound-exactly-when-in-range = sound-exactly-when;
             meant-is-carried-out-by-the-table = meant-is-carried-out;
             not-meant-does-nothing = not-meant-is-silent;
-            once-sound-always-sound = λ n g b s. every-state-passes-row-33-again n g b s .still-sound;
+            board-once-sound-always-sound = λ n g b s. every-state-passes-row-33-again n g b s .still-sound;
             a-reply-gets-no-reply = a-reply-message-is-never-answered;
             all-that-is-sent-is-a-reply = every-message-sent-is-a-reply;
             every-reply-is-a-frame-to-the-asker = every-reply-is-a-frame-to-the-asker;
+            group-table = group-table;
           };
       positions =
           record {
@@ -77,12 +83,12 @@ kept =
             struck-out-exactly-when-held = struck-exactly-when;
             what-is-struck-out = struck-out;
             the-count-is-the-records-held = the-count-is-the-number-of-records-held;
-            once-sound-always-sound = filing.a-sound-register-stays-sound;
+            register-once-sound-always-sound = filing.a-sound-register-stays-sound;
             struck-out-still-sound = striking.a-sound-register-stays-sound;
           };
       stored-form =
           record {
-            what-is-written-is-read = a-register-written-and-read-again-is-the-same;
+            form-written-is-read = a-register-written-and-read-again-is-the-same;
             what-is-read-is-written = a-form-read-and-written-again-is-the-same;
             what-is-read-is-sound = an-accepted-form-gives-a-sound-register;
           };

@@ -1,3 +1,4 @@
+pub mod GroupTable
 pub mod Facts
 pub mod First
 pub mod Rows

@@ -6,15 +6,16 @@ use Prim.Native.Nat.{ℕ, _+_, _*_, _≤_, _<_}
 use mathlib.Core.Path.{_≡_}
 use mathlib.Core.Logic.{_≢_, _↔_}
 use mathlib.Core.Bool.{true}
-use mathlib.Core.List.{List}
+use mathlib.Core.List.{List, [], _∷_}
 use mathlib.Core.Option.{none, some}
-use lib.ListN.{length, take, drop}
+use lib.ListN.{length, getD, take, drop}
 use Rattle.meaning.specs.Bytes.{Bytes}
 use Rattle.frame.specs.Layout.{message, source, headerOf, dataOf}
 use Rattle.frame.specs.Reading.{IsFrame, readingOf}
 use Rattle.frame.specs.Writing.{Writable, writingOf, over, bufferAfter}
 use Rattle.frame.specs.declared.header.Header.{Header}
 use Rattle.frame.specs.declared.reading.Reading.the-variants.{Frame}
+use Rattle.frame.specs.declared.writing.Writing.the-variants.{Next}
 use Rattle.travel.specs.Nearest.{IsNearest}
 use Rattle.travel.specs.Position.{percentOfPulse, pulseOfPercent}
 use Rattle.travel.specs.declared.Percent.{Percent}
@@ -25,11 +26,13 @@ use Rattle.board.proofs.Ranges.{BoardInRange}
 use Rattle.turn.specs.Turn.{Groups, silent}
 use Rattle.turn.specs.Replies.{answered}
 use Rattle.turn.specs.declared.turn.Answer.the-variants.{Replied}
-use Rattle.turn.specs.declared.turn.Change.the-variants.{Keep}
+use Rattle.turn.specs.declared.turn.Change.{Change}
+use Rattle.turn.specs.declared.turn.Change.the-variants.{Keep, Put}
 use Rattle.turn.proofs.Answered.{Proper}
 use Rattle.messages.specs.Table.{outcomeOf}
 use Rattle.messages.proofs.Contents.{Typed, TypedTable}
 use Rattle.node.specs.Meant.{replies}
+use Rattle.node.specs.Groups.{applied}
 use Rattle.node.specs.Frames.{turnOf}
 use Rattle.node.proofs.Passing.{Meant, IsOneOf}
 use Rattle.node.proofs.Laws.{Untouched}
@@ -57,10 +60,32 @@ pub record Frames : Type 0 where
   pub written-exactly-when-in-range :
       (buffer : List ℕ) (place : ℕ) (h : Header) (d : List ℕ)
       → Writable (length buffer) place h d ↔ (writeNumber (writingOf (length buffer) place h d) ≡ 0)
-  pub what-is-written-is-read :
+  pub frame-written-is-read :
       (buffer : List ℕ) (place : ℕ) (h : Header) (d : List ℕ) → Writable (length buffer) place h d → h .message < 256 → Bytes d
       → (readingOf (take (11 + length d) (drop place (bufferAfter buffer place h d))) ≡ Frame h (length d))
       × (dataOf (take (11 + length d) (drop place (bufferAfter buffer place h d))) ≡ d)
+  pub the-answer-is-the-place-after-the-frame :
+      (buffer : List ℕ) (place : ℕ) (h : Header) (d : List ℕ) → Writable (length buffer) place h d
+      → writingOf (length buffer) place h d ≡ Next (place + (11 + length d))
+  pub no-byte-before-the-frame-is-changed :
+      (buffer : List ℕ) (place : ℕ) (h : Header) (d : List ℕ) → Writable (length buffer) place h d
+      → take place (bufferAfter buffer place h d) ≡ take place buffer
+  pub no-byte-behind-the-frame-is-changed :
+      (buffer : List ℕ) (place : ℕ) (h : Header) (d : List ℕ) → Writable (length buffer) place h d
+      → drop (place + (11 + length d)) (bufferAfter buffer place h d) ≡ drop (place + (11 + length d)) buffer
+  pub the-buffer-keeps-its-length :
+      (buffer : List ℕ) (place : ℕ) (h : Header) (d : List ℕ) → Writable (length buffer) place h d
+      → length (bufferAfter buffer place h d) ≡ length buffer
+
+-- The table of sixteen entries after a turn, by the change that the turn hands out.
+pub record GroupTable : Type 0 where
+  pub a-table-kept-is-as-before : (g : Groups) → applied g Keep ≡ g
+  pub the-entry-put-is-its-three-bytes :
+      (g : Groups) (index low middle high : ℕ) → length g ≡ 16 → index ≤ 15
+      → getD (applied g (Put index low middle high)) index [] ≡ low ∷ middle ∷ high ∷ []
+  pub every-other-entry-is-as-before :
+      (g : Groups) (index low middle high other : ℕ) → other ≢ index → getD (applied g (Put index low middle high)) other [] ≡ getD g other []
+  pub the-table-keeps-its-length : (g : Groups) (change : Change) → length (applied g change) ≡ length g
 
 -- Of a sound board; one that is not is refused by row 33.
 pub record Board : Type 0 where
@@ -70,7 +95,7 @@ pub record Board : Type 0 where
       → turnOf n g b ≡ answered n (headerOf b) (outcomeOf n g (headerOf b) (dataOf b))
   pub not-meant-does-nothing :
       (n : Node) (g : Groups) (b : List ℕ) → sound n ≡ true → IsFrame b → ¬ Meant (n .settings) g (headerOf b) → turnOf n g b ≡ silent n Keep
-  pub once-sound-always-sound : (n : Node) (g : Groups) (b : List ℕ) → sound n ≡ true → sound (turnOf n g b .node) ≡ true
+  pub board-once-sound-always-sound : (n : Node) (g : Groups) (b : List ℕ) → sound n ≡ true → sound (turnOf n g b .node) ≡ true
   pub a-reply-gets-no-reply : (n : Node) (g : Groups) (b : List ℕ) → IsOneOf (message b) replies → Untouched n (turnOf n g b)
   -- so that two boards never chatter; of numbers that fit their types, as all numbers of the code do
   pub all-that-is-sent-is-a-reply :
@@ -79,6 +104,7 @@ pub record Board : Type 0 where
   -- from this node to the asker, with zeros behind it; in silence and when refused there is none
   pub every-reply-is-a-frame-to-the-asker :
       (n : Node) (g : Groups) (b : List ℕ) → sound n ≡ true → Typed n → TypedTable g → Proper (n .settings) (headerOf b) (turnOf n g b)
+  pub group-table : GroupTable
 
 pub record Positions : Type 0 where
   pub percent-is-the-nearest-whole :
@@ -120,7 +146,7 @@ pub record Register : Type 0 where
       (run : List Motor) (count line node n : ℕ) → struckOf run count line node .answer ≡ Count n
       → StruckOut run count line node (struckOf run count line node .motors) n
   pub the-count-is-the-records-held : (run : List Motor) (count : ℕ) → soundOf run count ≡ true → count ≡ occupied run
-  pub once-sound-always-sound :
+  pub register-once-sound-always-sound :
       (run : List Motor) (count line : ℕ) (b : List ℕ) → soundOf run count ≡ true
       → soundOf (filedOf run count line b .motors) (countAfter count (filedOf run count line b .answer)) ≡ true
   pub struck-out-still-sound :
@@ -129,7 +155,7 @@ pub record Register : Type 0 where
 
 -- Of bytes below 256 and pulses of two bytes, as all of the code are.
 pub record StoredForm : Type 0 where
-  pub what-is-written-is-read :
+  pub form-written-is-read :
       (run : List Motor) (count : ℕ) → soundOf run count ≡ true → TwoBytePulses (held run count)
       → (buffer : List ℕ) → formLength count ≤ length buffer → (other : List Motor) → length other ≡ 256
       → readOf other (take (formLength count) (formWritten run count buffer)) ≡ record { motors = run; answer = Count count }
