@@ -22,6 +22,7 @@ use Rattle.motors.proofs.StrikingLaws as striking
 use Rattle.form.proofs.FormLaws.{a-register-written-and-read-again-is-the-same, a-form-read-and-written-again-is-the-same, an-accepted-form-gives-a-sound-register}
 use Rattle.promises.specs.Demand2.{Filed, StruckOut, Demand2}
 use Rattle.promises.proofs.GroupTable.{group-table}
+use Rattle.promises.proofs.Events.{events}
 use Rattle.promises.proofs.Fileable.{filed-exactly-when, struck-exactly-when}
 
 filed : (run : List Motor) (count line : ℕ) (b : List ℕ) (n : ℕ) → filedOf run count line b .answer ≡ Count n
@@ -69,6 +70,7 @@ kept =
             all-that-is-sent-is-a-reply = every-message-sent-is-a-reply;
             every-reply-is-a-frame-to-the-asker = every-reply-is-a-frame-to-the-asker;
             group-table = group-table;
+            events = events;
           };
       positions =
           record {

@@ -14,6 +14,7 @@ use Rattle.turn.specs.Turn.{Groups}
 use Rattle.turn.specs.declared.turn.Change.{Change}
 use Rattle.turn.specs.declared.turn.Change.the-variants.{Keep, Put}
 use Rattle.node.specs.Groups.{applied}
+use Rattle.node.proofs.Laws.{silence-keeps-the-table}
 use Rattle.promises.specs.Demand2.{GroupTable}
 
 module _ (g : Groups) (index low middle high : ℕ) where
@@ -33,7 +34,7 @@ kept-length g (Put index low middle high) =
 pub group-table : GroupTable
 group-table =
     record {
-      a-table-kept-is-as-before = λ g. refl;
+      a-table-kept-is-as-before = silence-keeps-the-table;
       the-entry-put-is-its-three-bytes = put;
       every-other-entry-is-as-before = others;
       the-table-keeps-its-length = kept-length;

@@ -1,4 +1,5 @@
 pub mod GroupTable
+pub mod Events
 pub mod Facts
 pub mod First
 pub mod Rows

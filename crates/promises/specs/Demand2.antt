@@ -4,8 +4,8 @@
 -- Assumes nothing.
 use Prim.Native.Nat.{ℕ, _+_, _*_, _≤_, _<_}
 use mathlib.Core.Path.{_≡_}
-use mathlib.Core.Logic.{_≢_, _↔_}
-use mathlib.Core.Bool.{true}
+use mathlib.Core.Logic.{_≢_, _↔_, _⊎_}
+use mathlib.Core.Bool.{true, false}
 use mathlib.Core.List.{List, [], _∷_}
 use mathlib.Core.Option.{none, some}
 use lib.ListN.{length, getD, take, drop}
@@ -20,9 +20,15 @@ use Rattle.travel.specs.Nearest.{IsNearest}
 use Rattle.travel.specs.Position.{percentOfPulse, pulseOfPercent}
 use Rattle.travel.specs.declared.Percent.{Percent}
 use Rattle.travel.specs.declared.Pulse.{Pulse}
-use Rattle.board.specs.Node.{sound}
+use Rattle.board.specs.Drive.{drive}
+use Rattle.board.specs.Node.{sound, fresh, withDrive}
+use Rattle.board.specs.Events.{setUp, afterPulse, afterBlocked, afterCleared, afterPowerUp, done}
+use Rattle.board.specs.declared.drive.Motion.the-variants.{Still, Running}
+use Rattle.board.specs.declared.events.Verdict.the-variants.{Done}
+use Rattle.board.specs.declared.settings.Settings.{Settings}
 use Rattle.board.specs.declared.whole.Node.{Node}
-use Rattle.board.proofs.Ranges.{BoardInRange}
+use Rattle.board.proofs.Ranges.{SettingsInRange, BoardInRange}
+use Rattle.board.proofs.PowerUp.{PoweredUp}
 use Rattle.turn.specs.Turn.{Groups, silent}
 use Rattle.turn.specs.Replies.{answered}
 use Rattle.turn.specs.declared.turn.Answer.the-variants.{Replied}
@@ -87,6 +93,34 @@ pub record GroupTable : Type 0 where
       (g : Groups) (index low middle high other : ℕ) → other ≢ index → getD (applied g (Put index low middle high)) other [] ≡ getD g other []
   pub the-table-keeps-its-length : (g : Groups) (change : Change) → length (applied g change) ≡ length g
 
+-- A motor running to its target has reached it at a pulse: going up (direction 1) at or above it, else at or below it.
+abbrev pub Reached : (direction : ℕ) → (target p : Pulse) → Type 0
+Reached direction target p = ((direction ≡ 1) × (p .0 ≤ target .0)) ⊎ ((direction ≢ 1) × (target .0 ≤ p .0))
+
+-- Set-up and events that no row refuses: what they leave, whole, and that it is sound. Fields of a motor: position, motion, direction, source, cause, blocked.
+pub record Events : Type 0 where
+  pub set-up-gives-the-fresh-node : (s : Settings) → SettingsInRange s → (setUp s ≡ done (fresh s)) × (sound (fresh s) ≡ true)
+  pub a-motor-that-reaches-its-target-stops-there :
+      (n : Node) (p target : Pulse) → sound n ≡ true → p .0 ≤ n .settings .travel .0 → n .drive .motion ≡ Running target
+      → Reached (n .drive .direction) target p
+      → afterPulse n p ≡ done (withDrive n (drive p Still (n .drive .direction) 0 0 (n .drive .blocked)))
+  pub any-other-pulse-is-the-position-alone :
+      (n : Node) (p : Pulse) → sound n ≡ true → p .0 ≤ n .settings .travel .0
+      → ((target : Pulse) → n .drive .motion ≡ Running target → ¬ Reached (n .drive .direction) target p)
+      → afterPulse n p ≡ done (withDrive n (drive p (n .drive .motion) (n .drive .direction) (n .drive .source) (n .drive .cause) (n .drive .blocked)))
+  pub a-blocked-motor-stops :
+      (n : Node) (cause : ℕ) → sound n ≡ true → IsOneOf cause (0x20 ∷ 0x21 ∷ 0x22 ∷ [])
+      → afterBlocked n cause ≡ done (withDrive n (drive (n .drive .position) Still (n .drive .direction) 0 cause true))
+  pub a-cleared-motor-is-not-blocked :
+      (n : Node) → sound n ≡ true
+      → afterCleared n
+      ≡ done (withDrive n (drive (n .drive .position) (n .drive .motion) (n .drive .direction) (n .drive .source) (n .drive .cause) false))
+  pub power-up-keeps-and-clears : (n : Node) → sound n ≡ true → (afterPowerUp n .verdict ≡ Done) × PoweredUp n (afterPowerUp n .node)
+  pub at-a-pulse-still-sound : (n : Node) (p : Pulse) → sound n ≡ true → sound (afterPulse n p .node) ≡ true
+  pub blocked-still-sound : (n : Node) (cause : ℕ) → sound n ≡ true → sound (afterBlocked n cause .node) ≡ true
+  pub cleared-still-sound : (n : Node) → sound n ≡ true → sound (afterCleared n .node) ≡ true
+  pub powered-up-still-sound : (n : Node) → sound n ≡ true → sound (afterPowerUp n .node) ≡ true
+
 -- Of a sound board; one that is not is refused by row 33.
 pub record Board : Type 0 where
   pub sound-exactly-when-in-range : (n : Node) → BoardInRange n ↔ (sound n ≡ true)
@@ -105,6 +139,7 @@ pub record Board : Type 0 where
   pub every-reply-is-a-frame-to-the-asker :
       (n : Node) (g : Groups) (b : List ℕ) → sound n ≡ true → Typed n → TypedTable g → Proper (n .settings) (headerOf b) (turnOf n g b)
   pub group-table : GroupTable
+  pub events : Events
 
 pub record Positions : Type 0 where
   pub percent-is-the-nearest-whole :

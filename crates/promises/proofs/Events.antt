@@ -1,0 +1,71 @@
+-- Set-up and the events that no row refuses, as facts of what they leave.
+-- Assumes nothing.
+use Prim.Native.Nat.{ℕ, _≤_}
+use mathlib.Core.Path.{_≡_, refl, _∙_, ap}
+use mathlib.Core.Logic.{inl, inr}
+use mathlib.Core.Bool.{true, false}
+use mathlib.Core.List.{[], _∷_}
+use borrow.Author.Tests.{le-leb, eq-eqb, ne-eqb, eqb-true, eqb-false, leb-true}
+use lib.Dec.{eqb}
+use Rattle.travel.specs.declared.Pulse.{Pulse}
+use Rattle.board.specs.Drive.{drive, reached}
+use Rattle.board.specs.Node.{sound, withDrive}
+use Rattle.board.specs.Events.{afterPulse, blocks, done}
+use Rattle.board.specs.declared.drive.Motion.{Motion}
+use Rattle.board.specs.declared.drive.Motion.the-variants.{Still, Running}
+use Rattle.board.specs.declared.events.After.{After}
+use Rattle.board.specs.declared.whole.Node.{Node}
+use Rattle.board.proofs.EventRows.{set-up-done, pulse-done, blocked-done, cleared-done, power-up-done}
+use Rattle.board.proofs.PowerUp.{power-up-keeps-and-clears}
+use Rattle.board.proofs.Ranges.{settings-exactly-when}
+use Rattle.board.proofs.Sound.{fresh-is-sound, at-pulse-keeps-sound, blocked-keeps-sound, cleared-keeps-sound, power-up-keeps-sound}
+use Rattle.node.proofs.Passing.{IsOneOf, as-first, as-later}
+use Rattle.motors.proofs.Cases.{by-test}
+use Rattle.promises.specs.Demand2.{Reached, Events}
+
+reached-so : (direction : ℕ) (target p : Pulse) → Reached direction target p → reached (Running target) direction p ≡ true
+reached-so direction target p (inl (up, h)) = rw (eq-eqb direction 1 up, le-leb (p .0) (target .0) h)
+reached-so direction target p (inr (down, h)) = rw (ne-eqb direction 1 down, le-leb (target .0) (p .0) h)
+
+reached-is : (direction : ℕ) (target p : Pulse) → reached (Running target) direction p ≡ true → Reached direction target p
+reached-is direction target p e =
+    by-test (eqb direction 1)
+    (λ t. inl (eqb-true direction 1 t, leb-true (p .0) (target .0) (rw t at e)))
+    (λ t. inr (eqb-false direction 1 t, leb-true (target .0) (p .0) (rw t at e)))
+
+not-reached : (motion : Motion) (direction : ℕ) (p : Pulse) → ((target : Pulse) → motion ≡ Running target → ¬ Reached direction target p)
+    → reached motion direction p ≡ false
+not-reached Still direction p none = refl
+not-reached (Running target) direction p none =
+    by-test (reached (Running target) direction p) (λ t. absurd (none target refl (reached-is direction target p t))) (λ t. t)
+
+module _ (n : Node) (p : Pulse) (s : sound n ≡ true) (within : p .0 ≤ n .settings .travel .0) where
+  stops : (target : Pulse) → n .drive .motion ≡ Running target → Reached (n .drive .direction) target p
+      → afterPulse n p ≡ done (withDrive n (drive p Still (n .drive .direction) 0 0 (n .drive .blocked)))
+  stops target runs there =
+      let r : reached (n .drive .motion) (n .drive .direction) p ≡ true = rw runs (reached-so (n .drive .direction) target p there) in
+      pulse-done n s p within ∙ rw r
+
+  goes-on : ((target : Pulse) → n .drive .motion ≡ Running target → ¬ Reached (n .drive .direction) target p)
+      → afterPulse n p ≡ done (withDrive n (drive p (n .drive .motion) (n .drive .direction) (n .drive .source) (n .drive .cause) (n .drive .blocked)))
+  goes-on none = pulse-done n s p within ∙ rw (not-reached (n .drive .motion) (n .drive .direction) p none)
+
+blocking : (cause : ℕ) → IsOneOf cause (0x20 ∷ 0x21 ∷ 0x22 ∷ []) → blocks cause ≡ true
+blocking cause (as-first e) = rw e
+blocking cause (as-later (as-first e)) = rw e
+blocking cause (as-later (as-later (as-first e))) = rw e
+
+pub events : Events
+events =
+    record {
+      set-up-gives-the-fresh-node = λ s r. let i = settings-exactly-when s .0 r in (set-up-done s i, fresh-is-sound s i);
+      a-motor-that-reaches-its-target-stops-there = λ n p target s h. stops n p s h target;
+      any-other-pulse-is-the-position-alone = λ n p s. goes-on n p s;
+      a-blocked-motor-stops = λ n cause s c. blocked-done n s cause (blocking cause c);
+      a-cleared-motor-is-not-blocked = cleared-done;
+      power-up-keeps-and-clears = λ n s. (ap (λ (a : After). a .verdict) (power-up-done n s), power-up-keeps-and-clears n s);
+      at-a-pulse-still-sound = λ n p s. at-pulse-keeps-sound n s p;
+      blocked-still-sound = λ n cause s. blocked-keeps-sound n s cause;
+      cleared-still-sound = cleared-keeps-sound;
+      powered-up-still-sound = power-up-keeps-sound;
+    }
