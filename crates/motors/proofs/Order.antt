@@ -12,11 +12,11 @@ use Rattle.motors.specs.declared.motor.Motor.{Motor}
 use Rattle.motors.proofs.Cases.{by-test, both, neither}
 
 -- Line, then NodeID.
-abbrev Earlier : Motor → Motor → Type 0
+abbrev pub Earlier : Motor → Motor → Type 0
 Earlier x y = (x .line < y .line) ⊎ ((x .line ≡ y .line) × (x .node < y .node))
 
 module _ (x y : Motor) where
-  as-said : earlierOf x y ≡ true → Earlier x y
+  pub as-said : earlierOf x y ≡ true → Earlier x y
   unfolding earlierOf
   as-said e =
       by-test (ltb (x .line) (y .line)) (λ t. inl (ltb-true _ _ t)) λ t.

@@ -13,7 +13,7 @@ use Rattle.motors.specs.Motor.{zeros, rightOf, blankOf, isNode, isMotor,
 use Rattle.motors.specs.Register.{held, filled, soundOf, foundIn, found}
 use Rattle.motors.specs.declared.motor.Motor.{Motor}
 use Rattle.motors.proofs.Cases.{by-test}
-use Rattle.motors.proofs.Order.{known, blank-is-zeros, earlier-still}
+use Rattle.motors.proofs.Order.{Earlier, as-said, known, blank-is-zeros, earlier-still}
 use Rattle.motors.proofs.InOrder.{InOrder, Sound, sound-is}
 
 -- ---- the count is the number of records held: of places that are not all zeros
@@ -90,3 +90,17 @@ records-ascend p [] i j o h k = absurd (omega arith)
 records-ascend p (m ∷ l) i zero o h k = absurd (omega arith)
 records-ascend p (m ∷ l) zero (suc j) o h k = ascends m l j (o .2) (omega arith)
 records-ascend p (m ∷ l) (suc i) (suc j) o h k = records-ascend m l i j (o .2) (omega arith) (omega arith)
+
+-- Every one of them is right.
+right-at : (p : Motor) (l : List Motor) (i : ℕ) → InOrder p l → i < length l → rightOf (getD l i zeros) ≡ true
+right-at p [] i o h = absurd (omega arith)
+right-at p (m ∷ l) zero o h = o .0
+right-at p (m ∷ l) (suc i) o h = right-at m l i (o .2) (omega arith)
+
+module _ (run : List Motor) (count : ℕ) (ok : soundOf run count ≡ true) where
+  pub each-record-is-before-the-later-ones : (i j : ℕ) → i < j → j < count → Earlier (getD (held run count) i zeros) (getD (held run count) j zeros)
+  each-record-is-before-the-later-ones i j h k =
+      as-said _ _ (records-ascend zeros (held run count) i j (sound-is run count ok .in-order) h (omega (arith, length-held run count ok)))
+
+  pub each-record-is-right : (i : ℕ) → i < count → rightOf (getD (held run count) i zeros) ≡ true
+  each-record-is-right i h = right-at zeros (held run count) i (sound-is run count ok .in-order) (omega (arith, length-held run count ok))

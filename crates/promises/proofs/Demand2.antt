@@ -14,7 +14,7 @@ use Rattle.node.proofs.Sent.{every-message-sent-is-a-reply}
 use Rattle.motors.specs.Filing.{filedOf, struckOf}
 use Rattle.motors.specs.declared.motor.Motor.{Motor}
 use Rattle.motors.specs.declared.answer.Answer.the-variants.{Count}
-use Rattle.motors.proofs.Register.{the-count-is-the-number-of-records-held}
+use Rattle.motors.proofs.Register.{the-count-is-the-number-of-records-held, each-record-is-before-the-later-ones, each-record-is-right}
 use Rattle.motors.proofs.FilingLaws.{a-position-report-is-kept, a-motor-that-names-itself-is-held, a-60h-changes-no-reading, every-other-motor-is-untouched, the-same-number-on-another-line-is-untouched, no-motor-held-is-lost}
 use Rattle.motors.proofs.FilingLaws as filing
 use Rattle.motors.proofs.StrikingLaws.{the-motor-struck-out-is-gone, every-other-motor-stays, one-place-is-given-back}
@@ -23,6 +23,7 @@ use Rattle.form.proofs.FormLaws.{a-register-written-and-read-again-is-the-same,
 use Rattle.promises.specs.Demand2.{Filed, StruckOut, Demand2}
 use Rattle.promises.proofs.GroupTable.{group-table}
 use Rattle.promises.proofs.Events.{events}
+use Rattle.promises.proofs.Held.{in-range}
 use Rattle.promises.proofs.Fileable.{filed-exactly-when, struck-exactly-when}
 
 filed : (run : List Motor) (count line : ℕ) (b : List ℕ) (n : ℕ) → filedOf run count line b .answer ≡ Count n
@@ -80,6 +81,8 @@ kept =
           };
       register =
           record {
+            records-ascend-by-line-then-NodeID = each-record-is-before-the-later-ones;
+            every-record-held-is-in-range = λ run count s place h. in-range _ (each-record-is-right run count s place h);
             filed-exactly-when-fileable = filed-exactly-when;
             what-is-filed = filed;
             struck-out-exactly-when-held = struck-exactly-when;

@@ -1,6 +1,7 @@
 pub mod GroupTable
 pub mod Events
 pub mod Facts
+pub mod Held
 pub mod First
 pub mod Rows
 pub mod Fileable

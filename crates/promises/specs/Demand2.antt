@@ -42,7 +42,7 @@ use Rattle.node.specs.Groups.{applied}
 use Rattle.node.specs.Frames.{turnOf}
 use Rattle.node.proofs.Passing.{Meant, IsOneOf}
 use Rattle.node.proofs.Laws.{Untouched}
-use Rattle.motors.specs.Motor.{unread, withReading}
+use Rattle.motors.specs.Motor.{unread, withReading, zeros}
 use Rattle.motors.specs.Register.{held, soundOf, found}
 use Rattle.motors.specs.Report.{pulseIn, percentIn, ipIn}
 use Rattle.motors.specs.Filing.{filedOf, struckOf, isSome}
@@ -169,7 +169,24 @@ pub record StruckOut (run : List Motor) (count line node : ℕ) (after : List Mo
   pub every-other-motor-stays : (line′ node′ : ℕ) → (line ≡ line′ → node ≡ node′ → ⊥) → found after n line′ node′ ≡ found run count line′ node′
   pub its-place-is-given-back : n + 1 ≡ count
 
+-- Strictly ascending: line, then NodeID as a number.
+abbrev pub Before : Motor → Motor → Type 0
+Before x y = (x .line < y .line) ⊎ ((x .line ≡ y .line) × (x .node < y .node))
+
+-- The fields of a record held.
+pub record InRange (m : Motor) : Type 0 where
+  pub line-0-to-3 : m .line ≤ 3
+  pub NodeID-from-000001h : 0x000001 ≤ m .node
+  pub NodeID-to-FFFEFFh : m .node ≤ 0xFFFEFF
+  pub with-a-reading : m .reading ≡ true → (m .percent ≤ 100) × (((1 ≤ m .ip) × (m .ip ≤ 16)) ⊎ (m .ip ≡ 0xFF))
+  pub without-one-zeros : m .reading ≡ false → (m .pulse ≡ 0) × ((m .percent ≡ 0) × (m .ip ≡ 0))
+
 pub record Register : Type 0 where
+  pub records-ascend-by-line-then-NodeID :
+      (run : List Motor) (count : ℕ) → soundOf run count ≡ true → (first later : ℕ) → first < later → later < count
+      → Before (getD (held run count) first zeros) (getD (held run count) later zeros)
+  pub every-record-held-is-in-range :
+      (run : List Motor) (count : ℕ) → soundOf run count ≡ true → (place : ℕ) → place < count → InRange (getD (held run count) place zeros)
   pub filed-exactly-when-fileable :
       (run : List Motor) (count line : ℕ) (b : List ℕ) → Fileable run count line b ↔ ((n : ℕ) × (filedOf run count line b .answer ≡ Count n))
   pub what-is-filed :
