@@ -1,7 +1,7 @@
 -- The fields of a record that the register holds, as facts.
 -- Assumes nothing.
 use mathlib.Core.Path.{_≡_}
-use mathlib.Core.Bool.{true, false}
+use mathlib.Core.Bool.{true}
 use lib.Dec.{eqb}
 use borrow.Author.Tests.{leb-true, eqb-true}
 use Rattle.meaning.specs.Choice.{if_then_else_}
