@@ -23,6 +23,7 @@ use Rattle.form.proofs.FormLaws.{a-register-written-and-read-again-is-the-same,
 use Rattle.promises.specs.Demand2.{Filed, StruckOut, Demand2}
 use Rattle.promises.proofs.GroupTable.{group-table}
 use Rattle.promises.proofs.Events.{events}
+use Rattle.promises.proofs.Effects.{effects}
 use Rattle.promises.proofs.Held.{in-range}
 use Rattle.promises.proofs.Fileable.{filed-exactly-when, struck-exactly-when}
 
@@ -72,6 +73,7 @@ kept =
             every-reply-is-a-frame-to-the-asker = every-reply-is-a-frame-to-the-asker;
             group-table = group-table;
             events = events;
+            what-a-message-does = effects;
           };
       positions =
           record {

@@ -1,5 +1,6 @@
 pub mod GroupTable
 pub mod Events
+pub mod Effects
 pub mod Facts
 pub mod Held
 pub mod First

@@ -17,13 +17,17 @@ use Rattle.frame.specs.declared.header.Header.{Header}
 use Rattle.frame.specs.declared.reading.Reading.the-variants.{Frame}
 use Rattle.frame.specs.declared.writing.Writing.the-variants.{Next}
 use Rattle.travel.specs.Nearest.{IsNearest}
+use Rattle.travel.specs.Units.{pulse, percent, ip}
 use Rattle.travel.specs.Position.{percentOfPulse, pulseOfPercent}
 use Rattle.travel.specs.declared.Percent.{Percent}
 use Rattle.travel.specs.declared.Pulse.{Pulse}
-use Rattle.board.specs.Drive.{drive}
+use Rattle.board.specs.Drive.{drive, towards}
+use Rattle.board.specs.Favourites.{ipAt}
+use Rattle.board.specs.Lock.{lock}
 use Rattle.board.specs.Node.{sound, fresh, withDrive}
 use Rattle.board.specs.Events.{setUp, afterPulse, afterBlocked, afterCleared, afterPowerUp, done}
 use Rattle.board.specs.declared.drive.Motion.the-variants.{Still, Running}
+use Rattle.board.specs.declared.favourites.Ip.the-variants.{At}
 use Rattle.board.specs.declared.events.Verdict.the-variants.{Done}
 use Rattle.board.specs.declared.settings.Settings.{Settings}
 use Rattle.board.specs.declared.whole.Node.{Node}
@@ -35,6 +39,7 @@ use Rattle.turn.specs.declared.turn.Answer.the-variants.{Replied}
 use Rattle.turn.specs.declared.turn.Change.{Change}
 use Rattle.turn.specs.declared.turn.Change.the-variants.{Keep, Put}
 use Rattle.turn.proofs.Answered.{Proper}
+use Rattle.messages.specs.Fields.{byteAt, wordAt}
 use Rattle.messages.specs.Table.{outcomeOf}
 use Rattle.messages.proofs.Contents.{Typed, TypedTable}
 use Rattle.node.specs.Meant.{replies}
@@ -121,6 +126,47 @@ pub record Events : Type 0 where
   pub cleared-still-sound : (n : Node) → sound n ≡ true → sound (afterCleared n .node) ≡ true
   pub powered-up-still-sound : (n : Node) → sound n ≡ true → sound (afterPowerUp n .node) ≡ true
 
+-- A frame that a sound board is meant to carry out.
+pub record Arrives (n : Node) (g : Groups) (b : List ℕ) : Type 0 where
+  pub is-sound : sound n ≡ true
+  pub is-frame : IsFrame b
+  pub is-meant : Meant (n .settings) g (headerOf b)
+
+-- Where MOVETO sends the motor, by its function and position.
+pub data AimedAt (n : Node) (d : List ℕ) : Pulse → Type 0 where
+  down : byteAt d 0 ≡ 0 → AimedAt n d (n .settings .travel)
+  up : byteAt d 0 ≡ 1 → AimedAt n d (pulse 0)
+  to-IP : {p : Pulse} → byteAt d 0 ≡ 2 → wordAt d 1 ≤ 15 → ipAt (n .favourites) (ip (wordAt d 1 + 1)) ≡ At p → AimedAt n d p
+  to-percent : byteAt d 0 ≡ 4 → wordAt d 1 ≤ 100 → AimedAt n d (pulseOfPercent (percent (wordAt d 1)) (n .settings .travel))
+
+-- What an accepted message does to the board; each with all that its acceptance asks.
+pub record Effects (n : Node) (g : Groups) (b : List ℕ) : Type 0 where
+  -- 02h
+  pub a-running-motor-is-stopped :
+      message b ≡ 0x02 → 1 ≤ length (dataOf b) → n .lock .locked ≡ false → (target : Pulse) → n .drive .motion ≡ Running target
+      → turnOf n g b .node ≡ withDrive n (drive (n .drive .position) Still (n .drive .direction) 1 1 (n .drive .blocked))
+  pub a-motor-stopped-does-not-run : message b ≡ 0x02 → 1 ≤ length (dataOf b) → n .lock .locked ≡ false → turnOf n g b .node .drive .motion ≡ Still
+  -- 03h
+  pub a-motor-sent-elsewhere-runs-there :
+      message b ≡ 0x03 → 4 ≤ length (dataOf b) → n .lock .locked ≡ false → n .drive .blocked ≡ false
+      → (target : Pulse) → AimedAt n (dataOf b) target → n .drive .position .0 ≢ target .0
+      → turnOf n g b .node ≡ withDrive n (drive (n .drive .position) (Running target) (towards (n .drive .position) target) 1 1 false)
+  pub a-motor-that-is-there-stands :
+      message b ≡ 0x03 → 4 ≤ length (dataOf b) → n .lock .locked ≡ false → n .drive .blocked ≡ false
+      → (target : Pulse) → AimedAt n (dataOf b) target → n .drive .position .0 ≡ target .0
+      → turnOf n g b .node ≡ withDrive n (drive (n .drive .position) Still (n .drive .direction) 0 0 false)
+  -- 51h
+  pub a-group-is-stored :
+      message b ≡ 0x51 → 4 ≤ length (dataOf b) → byteAt (dataOf b) 0 ≤ 15
+      → turnOf n g b .change ≡ Put (byteAt (dataOf b) 0) (byteAt (dataOf b) 1) (byteAt (dataOf b) 2) (byteAt (dataOf b) 3)
+  -- 16h, function 1
+  pub a-lock-is-held-by-its-sender :
+      message b ≡ 0x16 → 2 ≤ length (dataOf b) → byteAt (dataOf b) 0 ≡ 1 → (n .lock .locked ≡ true → n .lock .priority ≤ byteAt (dataOf b) 1)
+      → turnOf n g b .node .lock ≡ lock true (source b) (byteAt (dataOf b) 1) (n .lock .saved)
+  pub a-locked-motor-does-not-run :
+      message b ≡ 0x16 → 2 ≤ length (dataOf b) → byteAt (dataOf b) 0 ≡ 1 → (n .lock .locked ≡ true → n .lock .priority ≤ byteAt (dataOf b) 1)
+      → turnOf n g b .node .drive .motion ≡ Still
+
 -- Of a sound board; one that is not is refused by row 33.
 pub record Board : Type 0 where
   pub sound-exactly-when-in-range : (n : Node) → BoardInRange n ↔ (sound n ≡ true)
@@ -140,6 +186,7 @@ pub record Board : Type 0 where
       (n : Node) (g : Groups) (b : List ℕ) → sound n ≡ true → Typed n → TypedTable g → Proper (n .settings) (headerOf b) (turnOf n g b)
   pub group-table : GroupTable
   pub events : Events
+  pub what-a-message-does : (n : Node) (g : Groups) (b : List ℕ) → Arrives n g b → Effects n g b
 
 pub record Positions : Type 0 where
   pub percent-is-the-nearest-whole :

@@ -1,0 +1,105 @@
+-- What an accepted message does to the board, row by row of the message table.
+-- Assumes nothing.
+use Prim.Native.Nat.{ℕ, _≤_}
+use mathlib.Core.Path.{_≡_, refl, _∙_, sym, ap}
+use mathlib.Core.Bool.{true, false}
+use mathlib.Core.List.{List}
+use borrow.Author.Tests.{le-leb, eq-eqb, ne-eqb}
+use lib.ListN.{length}
+use Rattle.meaning.specs.Choice.{either}
+use Rattle.frame.specs.Layout.{message, source, headerOf, dataOf}
+use Rattle.travel.specs.declared.Pulse.{Pulse}
+use Rattle.board.specs.Drive.{halted, haltedFrom, movedTo}
+use Rattle.board.specs.Lock.{admits, locked}
+use Rattle.board.specs.Node.{withDrive, withLock}
+use Rattle.board.specs.declared.drive.Drive.{Drive}
+use Rattle.board.specs.declared.drive.Motion.{Motion}
+use Rattle.board.specs.declared.drive.Motion.the-variants.{Still, Running}
+use Rattle.board.specs.declared.favourites.Ip.the-variants.{At}
+use Rattle.board.specs.declared.whole.Node.{Node}
+use Rattle.turn.specs.Turn.{Groups}
+use Rattle.turn.specs.Replies.{acts}
+use Rattle.turn.specs.declared.turn.Change.{Change}
+use Rattle.turn.specs.declared.turn.Change.the-variants.{Keep, Put}
+use Rattle.turn.specs.declared.turn.Turn.{Turn}
+use Rattle.messages.specs.Fields.{byteAt, wordAt}
+use Rattle.messages.specs.Motor.{aimOf, isAim, targetOf}
+use Rattle.messages.specs.Table.{outcomeOf}
+use Rattle.messages.proofs.Messages.{at-02, at-03, at-16, at-51}
+use Rattle.messages.proofs.Rows.{stop-done, move-aimed, move-free, set-lock-by, function-1, lock-done, set-group-done}
+use Rattle.node.specs.Frames.{turnOf}
+use Rattle.node.proofs.Laws.{meant-is-carried-out}
+use Rattle.promises.specs.Demand2.{Arrives, AimedAt, down, up, to-IP, to-percent, Effects}
+
+halted-is-still : (motion : Motion) (d : Drive) → d .motion ≡ motion → haltedFrom motion d .motion ≡ Still
+halted-is-still Still d e = e
+halted-is-still (Running target) d e = refl
+
+module _ (n : Node) (d : List ℕ) where
+  is-aim : (target : Pulse) → AimedAt n d target → isAim (aimOf (byteAt d 0) (wordAt d 1)) ≡ true
+  is-aim target (down f) = rw f
+  is-aim target (up f) = rw f
+  is-aim target (to-IP f h i) = rw (f, le-leb (wordAt d 1) 15 h)
+  is-aim target (to-percent f h) = rw (f, le-leb (wordAt d 1) 100 h)
+
+  aims-at : (target : Pulse) → AimedAt n d target → At target ≡ targetOf n (aimOf (byteAt d 0) (wordAt d 1))
+  aims-at target (down f) = rw f
+  aims-at target (up f) = rw f
+  aims-at target (to-IP f h i) = rw (f, le-leb (wordAt d 1) 15 h) (sym i)
+  aims-at target (to-percent f h) = rw (f, le-leb (wordAt d 1) 100 h)
+
+admitted : (n : Node) (priority : ℕ) → (n .lock .locked ≡ true → n .lock .priority ≤ priority) → admits (n .lock) priority ≡ true
+admitted n priority h = either (λ t. t ≡ true) (n .lock .locked) (λ e. le-leb (n .lock .priority) priority (h e)) (λ e. refl)
+
+module _ (n : Node) (g : Groups) (b : List ℕ) (a : Arrives n g b) where
+  abbrev content : List ℕ
+  content = dataOf b
+
+  -- A message that acts leaves its node and its change, whether or not it is answered.
+  acted : (after : Node) (change : Change) → outcomeOf n g (headerOf b) content ≡ acts after change
+      → (turnOf n g b .node ≡ after) × (turnOf n g b .change ≡ change)
+  acted after change o =
+      rw (meant-is-carried-out n g b (a .is-sound) (a .is-frame) (a .is-meant), o)
+      (either (λ (t : Turn). (t .node ≡ after) × (t .change ≡ change)) (headerOf b .ack) (λ e. (refl, refl)) (λ e. (refl, refl)))
+
+  stopped : message b ≡ 0x02 → 1 ≤ length content → n .lock .locked ≡ false → turnOf n g b .node ≡ withDrive n (halted (n .drive))
+  stopped m h free =
+      acted (withDrive n (halted (n .drive))) Keep
+      (at-02 n g (headerOf b) content m ∙ stop-done n content (le-leb 1 (length content) h) free) .0
+
+  moved : message b ≡ 0x03 → 4 ≤ length content → n .lock .locked ≡ false → n .drive .blocked ≡ false → (target : Pulse) → AimedAt n content target
+      → turnOf n g b .node ≡ withDrive n (movedTo (n .drive) target)
+  moved m h free clear target aim =
+      acted (withDrive n (movedTo (n .drive) target)) Keep
+      (at-03 n g (headerOf b) content m
+      ∙ move-aimed n content (byteAt content 0) (wordAt content 1) (aimOf (byteAt content 0) (wordAt content 1)) (le-leb 4 (length content) h) refl refl refl
+      ∙ move-free n (aimOf (byteAt content 0) (wordAt content 1)) (is-aim n content target aim) (At target) free clear (aims-at n content target aim)) .0
+
+  locking : message b ≡ 0x16 → 2 ≤ length content → byteAt content 0 ≡ 1 → (n .lock .locked ≡ true → n .lock .priority ≤ byteAt content 1)
+      → turnOf n g b .node ≡ withLock (withDrive n (halted (n .drive))) (locked (n .lock) (source b) (byteAt content 1))
+  locking m h f p =
+      acted (withLock (withDrive n (halted (n .drive))) (locked (n .lock) (source b) (byteAt content 1))) Keep
+      (at-16 n g (headerOf b) content m
+      ∙ set-lock-by n (source b) content (byteAt content 0) (byteAt content 1) (le-leb 2 (length content) h) refl refl
+      ∙ function-1 n (source b) (byteAt content 0) (byteAt content 1) f
+      ∙ lock-done n (source b) (byteAt content 1) (admitted n (byteAt content 1) p)) .0
+
+  pub effects : Effects n g b
+  effects =
+      record {
+        a-running-motor-is-stopped = λ m h free target runs. stopped m h free ∙ ap (λ (motion : Motion). withDrive n (haltedFrom motion (n .drive))) runs;
+        a-motor-stopped-does-not-run =
+            λ m h free. ap (λ (x : Node). x .drive .motion) (stopped m h free) ∙ halted-is-still (n .drive .motion) (n .drive) refl;
+        a-motor-sent-elsewhere-runs-there =
+            λ m h free clear target aim away. moved m h free clear target aim ∙ rw (ne-eqb (n .drive .position .0) (target .0) away, clear);
+        a-motor-that-is-there-stands =
+            λ m h free clear target aim there. moved m h free clear target aim ∙ rw (eq-eqb (n .drive .position .0) (target .0) there, clear);
+        a-group-is-stored =
+            λ m h i.
+            acted n (Put (byteAt content 0) (byteAt content 1) (byteAt content 2) (byteAt content 3))
+            (at-51 n g (headerOf b) content m
+            ∙ set-group-done n content (byteAt content 0) (le-leb 4 (length content) h) refl (byteAt content 1) (byteAt content 2) (byteAt content 3) i refl refl refl) .1;
+        a-lock-is-held-by-its-sender = λ m h f p. ap (λ (x : Node). x .lock) (locking m h f p);
+        a-locked-motor-does-not-run =
+            λ m h f p. ap (λ (x : Node). x .drive .motion) (locking m h f p) ∙ halted-is-still (n .drive .motion) (n .drive) refl;
+      }
