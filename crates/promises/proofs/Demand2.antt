@@ -24,6 +24,7 @@ use Rattle.promises.specs.Demand2.{Filed, StruckOut, Demand2}
 use Rattle.promises.proofs.GroupTable.{group-table}
 use Rattle.promises.proofs.Events.{events}
 use Rattle.promises.proofs.Effects.{effects}
+use Rattle.promises.proofs.OneIp.{one-ip}
 use Rattle.promises.proofs.Held.{in-range}
 use Rattle.promises.proofs.Fileable.{filed-exactly-when, struck-exactly-when}
 
@@ -74,6 +75,7 @@ kept =
             group-table = group-table;
             events = events;
             what-a-message-does = effects;
+            one-IP = one-ip;
           };
       positions =
           record {

@@ -4,18 +4,24 @@ use Prim.Native.Nat.{ℕ, _≤_}
 use mathlib.Core.Path.{_≡_, refl, _∙_, sym, ap}
 use mathlib.Core.Bool.{true, false}
 use mathlib.Core.List.{List}
-use borrow.Author.Tests.{le-leb, eq-eqb, ne-eqb}
+use borrow.Author.Tests.{le-leb, le-ltb, eq-eqb, ne-eqb}
 use lib.ListN.{length}
 use Rattle.meaning.specs.Choice.{either}
 use Rattle.frame.specs.Layout.{message, source, headerOf, dataOf}
+use Rattle.travel.specs.Units.{percent, ip}
+use Rattle.travel.specs.Position.{pulseOfPercent}
+use Rattle.travel.specs.declared.IpIndex.{IpIndex}
 use Rattle.travel.specs.declared.Pulse.{Pulse}
 use Rattle.board.specs.Drive.{halted, haltedFrom, movedTo}
-use Rattle.board.specs.Lock.{admits, locked}
-use Rattle.board.specs.Node.{withDrive, withLock}
+use Rattle.board.specs.Favourites.{isNumber, withIp, sharedOut}
+use Rattle.board.specs.Lock.{admits, locked, unlocked, saving}
+use Rattle.board.specs.Node.{withDrive, withFavourites, withLock}
 use Rattle.board.specs.declared.drive.Drive.{Drive}
 use Rattle.board.specs.declared.drive.Motion.{Motion}
 use Rattle.board.specs.declared.drive.Motion.the-variants.{Still, Running}
-use Rattle.board.specs.declared.favourites.Ip.the-variants.{At}
+use Rattle.board.specs.declared.favourites.Favourites.{Favourites}
+use Rattle.board.specs.declared.favourites.Ip.the-variants.{Unset, At}
+use Rattle.board.specs.declared.lock.Lock.{Lock}
 use Rattle.board.specs.declared.whole.Node.{Node}
 use Rattle.turn.specs.Turn.{Groups}
 use Rattle.turn.specs.Replies.{acts}
@@ -24,9 +30,14 @@ use Rattle.turn.specs.declared.turn.Change.the-variants.{Keep, Put}
 use Rattle.turn.specs.declared.turn.Turn.{Turn}
 use Rattle.messages.specs.Fields.{byteAt, wordAt}
 use Rattle.messages.specs.Motor.{aimOf, isAim, targetOf}
+use Rattle.messages.specs.Ips.{shareOrder, orderOf, keepingIps, deletingFrom, settingIp}
+use Rattle.messages.specs.Locking.{keepingLock, settingLock}
 use Rattle.messages.specs.Table.{outcomeOf}
-use Rattle.messages.proofs.Messages.{at-02, at-03, at-16, at-51}
-use Rattle.messages.proofs.Rows.{stop-done, move-aimed, move-free, set-lock-by, function-1, lock-done, set-group-done}
+use Rattle.messages.specs.declared.favourites.Order.{Order}
+use Rattle.messages.specs.declared.favourites.Order.the-variants.{Delete, Here, AtPercent, Share}
+use Rattle.messages.proofs.Messages.{at-02, at-03, at-15, at-16, at-51}
+use Rattle.messages.proofs.Rows.{stop-done, move-aimed, move-free, set-ip-ordered, set-lock-by, function-0, function-1, function-3, function-4, unlock-done, lock-done, set-group-done}
+use Rattle.messages.proofs.Orders.{sharing, deleting, here, percent-at}
 use Rattle.node.specs.Frames.{turnOf}
 use Rattle.node.proofs.Laws.{meant-is-carried-out}
 use Rattle.promises.specs.Demand2.{Arrives, AimedAt, down, up, to-IP, to-percent, Effects}
@@ -84,6 +95,32 @@ module _ (n : Node) (g : Groups) (b : List ℕ) (a : Arrives n g b) where
       ∙ function-1 n (source b) (byteAt content 0) (byteAt content 1) f
       ∙ lock-done n (source b) (byteAt content 1) (admitted n (byteAt content 1) p)) .0
 
+  lock-set : (l : Lock) → message b ≡ 0x16 → 2 ≤ length content
+      → settingLock n (source b) (byteAt content 0) (byteAt content 1) ≡ keepingLock n l → turnOf n g b .node ≡ withLock n l
+  lock-set l m h o =
+      acted (withLock n l) Keep
+      (at-16 n g (headerOf b) content m
+      ∙ set-lock-by n (source b) content (byteAt content 0) (byteAt content 1) (le-leb 2 (length content) h) refl refl
+      ∙ o) .0
+
+  -- 15h: the order that its fields give.
+  abbrev index : IpIndex
+  index = ip (byteAt content 1)
+
+  numbered : 1 ≤ byteAt content 1 → byteAt content 1 ≤ 16 → isNumber index ≡ true
+  numbered l u = rw (le-leb 1 (byteAt content 1) l, le-leb (byteAt content 1) 16 u)
+
+  ordered : (order : Order) (f : Favourites) → message b ≡ 0x15 → 4 ≤ length content → orderOf (byteAt content 0) index (wordAt content 2) ≡ order
+      → settingIp n order ≡ keepingIps n f → turnOf n g b .node ≡ withFavourites n f
+  ordered order f m h o e =
+      acted (withFavourites n f) Keep
+      (at-15 n g (headerOf b) content m
+      ∙ set-ip-ordered n content (byteAt content 0) (byteAt content 1) (wordAt content 2) order (le-leb 4 (length content) h) refl refl refl (sym o)
+      ∙ e) .0
+
+  shared : (value : ℕ) → 1 ≤ value → value ≤ 16 → shareOrder value ≡ Share value
+  shared value l u = rw (le-ltb value 1 l, le-ltb 16 value u)
+
   pub effects : Effects n g b
   effects =
       record {
@@ -102,4 +139,28 @@ module _ (n : Node) (g : Groups) (b : List ℕ) (a : Arrives n g b) where
         a-lock-is-held-by-its-sender = λ m h f p. ap (λ (x : Node). x .lock) (locking m h f p);
         a-locked-motor-does-not-run =
             λ m h f p. ap (λ (x : Node). x .drive .motion) (locking m h f p) ∙ halted-is-still (n .drive .motion) (n .drive) refl;
+        an-unlocked-board-has-no-holder =
+            λ m h f p.
+            lock-set (unlocked (n .lock)) m h
+            (function-0 n (source b) (byteAt content 0) (byteAt content 1) f
+            ∙ unlock-done n (source b) (byteAt content 1) (admitted n (byteAt content 1) p));
+        a-lock-is-saved = λ m h f. lock-set (saving (n .lock) true) m h (function-3 n (source b) (byteAt content 0) (byteAt content 1) f);
+        a-lock-is-saved-no-more = λ m h f. lock-set (saving (n .lock) false) m h (function-4 n (source b) (byteAt content 0) (byteAt content 1) f);
+        an-IP-is-deleted =
+            λ m h f l u p e.
+            ordered (Delete index) (withIp (n .favourites) index Unset) m h (deleting (byteAt content 0) index (wordAt content 2) (numbered l u) f)
+            (ap (deletingFrom n index) e);
+        an-IP-is-set-here =
+            λ m h f l u.
+            ordered (Here index) (withIp (n .favourites) index (At (n .drive .position))) m h
+            (here (byteAt content 0) index (wordAt content 2) (numbered l u) f) refl;
+        an-IP-is-set-at-a-percent =
+            λ m h f l u v.
+            ordered (AtPercent index (percent (wordAt content 2)))
+            (withIp (n .favourites) index (At (pulseOfPercent (percent (wordAt content 2)) (n .settings .travel)))) m h
+            (percent-at (byteAt content 0) index (wordAt content 2) (numbered l u) f v) refl;
+        IPs-are-shared-out =
+            λ m h f l u.
+            ordered (Share (wordAt content 2)) (sharedOut (wordAt content 2) (n .settings .travel)) m h
+            (sharing (byteAt content 0) index (wordAt content 2) f ∙ shared (wordAt content 2) l u) refl;
       }

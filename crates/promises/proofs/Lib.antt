@@ -1,6 +1,7 @@
 pub mod GroupTable
 pub mod Events
 pub mod Effects
+pub mod OneIp
 pub mod Facts
 pub mod Held
 pub mod First

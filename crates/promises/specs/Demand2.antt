@@ -10,6 +10,7 @@ use mathlib.Core.List.{List, [], _∷_}
 use mathlib.Core.Option.{none, some}
 use lib.ListN.{length, getD, take, drop}
 use Rattle.meaning.specs.Bytes.{Bytes}
+use Rattle.frame.specs.Address.{address}
 use Rattle.frame.specs.Layout.{message, source, headerOf, dataOf}
 use Rattle.frame.specs.Reading.{IsFrame, readingOf}
 use Rattle.frame.specs.Writing.{Writable, writingOf, over, bufferAfter}
@@ -19,15 +20,18 @@ use Rattle.frame.specs.declared.writing.Writing.the-variants.{Next}
 use Rattle.travel.specs.Nearest.{IsNearest}
 use Rattle.travel.specs.Units.{pulse, percent, ip}
 use Rattle.travel.specs.Position.{percentOfPulse, pulseOfPercent}
+use Rattle.travel.specs.declared.IpIndex.{IpIndex}
 use Rattle.travel.specs.declared.Percent.{Percent}
 use Rattle.travel.specs.declared.Pulse.{Pulse}
 use Rattle.board.specs.Drive.{drive, towards}
-use Rattle.board.specs.Favourites.{ipAt}
+use Rattle.board.specs.Favourites.{ipAt, withIp, sharedOut}
 use Rattle.board.specs.Lock.{lock}
-use Rattle.board.specs.Node.{sound, fresh, withDrive}
+use Rattle.board.specs.Node.{sound, fresh, withDrive, withFavourites, withLock}
 use Rattle.board.specs.Events.{setUp, afterPulse, afterBlocked, afterCleared, afterPowerUp, done}
 use Rattle.board.specs.declared.drive.Motion.the-variants.{Still, Running}
-use Rattle.board.specs.declared.favourites.Ip.the-variants.{At}
+use Rattle.board.specs.declared.favourites.Favourites.{Favourites}
+use Rattle.board.specs.declared.favourites.Ip.{Ip}
+use Rattle.board.specs.declared.favourites.Ip.the-variants.{Unset, At}
 use Rattle.board.specs.declared.events.Verdict.the-variants.{Done}
 use Rattle.board.specs.declared.settings.Settings.{Settings}
 use Rattle.board.specs.declared.whole.Node.{Node}
@@ -166,6 +170,39 @@ pub record Effects (n : Node) (g : Groups) (b : List ℕ) : Type 0 where
   pub a-locked-motor-does-not-run :
       message b ≡ 0x16 → 2 ≤ length (dataOf b) → byteAt (dataOf b) 0 ≡ 1 → (n .lock .locked ≡ true → n .lock .priority ≤ byteAt (dataOf b) 1)
       → turnOf n g b .node .drive .motion ≡ Still
+  -- 16h, functions 0, 3 and 4
+  pub an-unlocked-board-has-no-holder :
+      message b ≡ 0x16 → 2 ≤ length (dataOf b) → byteAt (dataOf b) 0 ≡ 0 → (n .lock .locked ≡ true → n .lock .priority ≤ byteAt (dataOf b) 1)
+      → turnOf n g b .node ≡ withLock n (lock false (address 0) 0 (n .lock .saved))
+  pub a-lock-is-saved :
+      message b ≡ 0x16 → 2 ≤ length (dataOf b) → byteAt (dataOf b) 0 ≡ 3
+      → turnOf n g b .node ≡ withLock n (lock (n .lock .locked) (n .lock .holder) (n .lock .priority) true)
+  pub a-lock-is-saved-no-more :
+      message b ≡ 0x16 → 2 ≤ length (dataOf b) → byteAt (dataOf b) 0 ≡ 4
+      → turnOf n g b .node ≡ withLock n (lock (n .lock .locked) (n .lock .holder) (n .lock .priority) false)
+  -- 15h, functions 0, 1, 3 and 4
+  pub an-IP-is-deleted :
+      message b ≡ 0x15 → 4 ≤ length (dataOf b) → byteAt (dataOf b) 0 ≡ 0 → 1 ≤ byteAt (dataOf b) 1 → byteAt (dataOf b) 1 ≤ 16
+      → (p : Pulse) → ipAt (n .favourites) (ip (byteAt (dataOf b) 1)) ≡ At p
+      → turnOf n g b .node ≡ withFavourites n (withIp (n .favourites) (ip (byteAt (dataOf b) 1)) Unset)
+  pub an-IP-is-set-here :
+      message b ≡ 0x15 → 4 ≤ length (dataOf b) → byteAt (dataOf b) 0 ≡ 1 → 1 ≤ byteAt (dataOf b) 1 → byteAt (dataOf b) 1 ≤ 16
+      → turnOf n g b .node ≡ withFavourites n (withIp (n .favourites) (ip (byteAt (dataOf b) 1)) (At (n .drive .position)))
+  pub an-IP-is-set-at-a-percent :
+      message b ≡ 0x15 → 4 ≤ length (dataOf b) → byteAt (dataOf b) 0 ≡ 3 → 1 ≤ byteAt (dataOf b) 1 → byteAt (dataOf b) 1 ≤ 16
+      → wordAt (dataOf b) 2 ≤ 100
+      → turnOf n g b .node
+      ≡ withFavourites n
+      (withIp (n .favourites) (ip (byteAt (dataOf b) 1)) (At (pulseOfPercent (percent (wordAt (dataOf b) 2)) (n .settings .travel))))
+  pub IPs-are-shared-out :
+      message b ≡ 0x15 → 4 ≤ length (dataOf b) → byteAt (dataOf b) 0 ≡ 4 → 1 ≤ wordAt (dataOf b) 2 → wordAt (dataOf b) 2 ≤ 16
+      → turnOf n g b .node ≡ withFavourites n (sharedOut (wordAt (dataOf b) 2) (n .settings .travel))
+
+-- One IP set or unset, of sixteen.
+pub record OneIp : Type 0 where
+  pub the-IP-named-is-as-set :
+      (f : Favourites) (i : IpIndex) (x : Ip) → length (f .slots) ≡ 16 → 1 ≤ i .0 → i .0 ≤ 16 → ipAt (withIp f i x) i ≡ x
+  pub every-other-IP-is-as-before : (f : Favourites) (i j : IpIndex) (x : Ip) → j .0 ≢ i .0 → ipAt (withIp f i x) j ≡ ipAt f j
 
 -- Of a sound board; one that is not is refused by row 33.
 pub record Board : Type 0 where
@@ -187,6 +224,7 @@ pub record Board : Type 0 where
   pub group-table : GroupTable
   pub events : Events
   pub what-a-message-does : (n : Node) (g : Groups) (b : List ℕ) → Arrives n g b → Effects n g b
+  pub one-IP : OneIp
 
 pub record Positions : Type 0 where
   pub percent-is-the-nearest-whole :
