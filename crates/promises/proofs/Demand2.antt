@@ -25,6 +25,7 @@ use Rattle.promises.proofs.GroupTable.{group-table}
 use Rattle.promises.proofs.Events.{events}
 use Rattle.promises.proofs.Effects.{effects}
 use Rattle.promises.proofs.OneIp.{one-ip}
+use Rattle.promises.proofs.Answers.{answers}
 use Rattle.promises.proofs.Held.{in-range}
 use Rattle.promises.proofs.Fileable.{filed-exactly-when, struck-exactly-when}
 
@@ -76,6 +77,7 @@ kept =
             events = events;
             what-a-message-does = effects;
             one-IP = one-ip;
+            what-a-message-is-answered = answers;
           };
       positions =
           record {

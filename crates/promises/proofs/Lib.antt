@@ -2,6 +2,7 @@ pub mod GroupTable
 pub mod Events
 pub mod Effects
 pub mod OneIp
+pub mod Answers
 pub mod Facts
 pub mod Held
 pub mod First

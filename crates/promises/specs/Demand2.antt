@@ -2,15 +2,15 @@
 -- as the message table says and does nothing for a frame not meant for it; the register files each reading under line AND NodeID and touches no
 -- other motor's record.
 -- Assumes nothing.
-use Prim.Native.Nat.{ℕ, _+_, _*_, _≤_, _<_}
+use Prim.Native.Nat.{ℕ, _+_, _*_, _/_, _%_, _≤_, _<_}
 use mathlib.Core.Path.{_≡_}
 use mathlib.Core.Logic.{_≢_, _↔_, _⊎_}
 use mathlib.Core.Bool.{true, false}
-use mathlib.Core.List.{List, [], _∷_}
+use mathlib.Core.List.{List, [], _∷_, _++_}
 use mathlib.Core.Option.{none, some}
 use lib.ListN.{length, getD, take, drop}
 use Rattle.meaning.specs.Bytes.{Bytes}
-use Rattle.frame.specs.Address.{address}
+use Rattle.frame.specs.Address.{address, bytesOf}
 use Rattle.frame.specs.Layout.{message, source, headerOf, dataOf}
 use Rattle.frame.specs.Reading.{IsFrame, readingOf}
 use Rattle.frame.specs.Writing.{Writable, writingOf, over, bufferAfter}
@@ -24,9 +24,9 @@ use Rattle.travel.specs.declared.IpIndex.{IpIndex}
 use Rattle.travel.specs.declared.Percent.{Percent}
 use Rattle.travel.specs.declared.Pulse.{Pulse}
 use Rattle.board.specs.Drive.{drive, towards}
-use Rattle.board.specs.Favourites.{ipAt, withIp, sharedOut}
+use Rattle.board.specs.Favourites.{ipAt, withIp, sharedOut, reportedIp}
 use Rattle.board.specs.Lock.{lock}
-use Rattle.board.specs.Node.{sound, fresh, withDrive, withFavourites, withLock}
+use Rattle.board.specs.Node.{sound, fresh, withDrive, withFavourites, withLock, statusOf}
 use Rattle.board.specs.Events.{setUp, afterPulse, afterBlocked, afterCleared, afterPowerUp, done}
 use Rattle.board.specs.declared.drive.Motion.the-variants.{Still, Running}
 use Rattle.board.specs.declared.favourites.Favourites.{Favourites}
@@ -37,13 +37,15 @@ use Rattle.board.specs.declared.settings.Settings.{Settings}
 use Rattle.board.specs.declared.whole.Node.{Node}
 use Rattle.board.proofs.Ranges.{SettingsInRange, BoardInRange}
 use Rattle.board.proofs.PowerUp.{PoweredUp}
-use Rattle.turn.specs.Turn.{Groups, silent}
-use Rattle.turn.specs.Replies.{answered}
+use Rattle.turn.specs.Code.{codeOf}
+use Rattle.turn.specs.Turn.{Groups, silent, replied}
+use Rattle.turn.specs.Replies.{acts, refuses, replyTo, answered}
+use Rattle.turn.specs.declared.code.Code.{Code}
 use Rattle.turn.specs.declared.turn.Answer.the-variants.{Replied}
 use Rattle.turn.specs.declared.turn.Change.{Change}
 use Rattle.turn.specs.declared.turn.Change.the-variants.{Keep, Put}
 use Rattle.turn.proofs.Answered.{Proper}
-use Rattle.messages.specs.Fields.{byteAt, wordAt}
+use Rattle.messages.specs.Fields.{byteAt, wordAt, bit}
 use Rattle.messages.specs.Table.{outcomeOf}
 use Rattle.messages.proofs.Contents.{Typed, TypedTable}
 use Rattle.node.specs.Meant.{replies}
@@ -204,6 +206,51 @@ pub record OneIp : Type 0 where
       (f : Favourites) (i : IpIndex) (x : Ip) → length (f .slots) ≡ 16 → 1 ≤ i .0 → i .0 ≤ 16 → ipAt (withIp f i x) i ≡ x
   pub every-other-IP-is-as-before : (f : Favourites) (i j : IpIndex) (x : Ip) → j .0 ≢ i .0 → ipAt (withIp f i x) j ≡ ipAt f j
 
+-- What a message is answered: a GET by its POST, which changes nothing; all else with the ACK bit alone, by 7Fh, or by 6Fh with the code that refuses it.
+pub record Answers (n : Node) (g : Groups) (b : List ℕ) : Type 0 where
+  pub position-is-told :
+      message b ≡ 0x0C
+      → turnOf n g b
+      ≡ replied n Keep
+      (replyTo (n .settings) (headerOf b) 0x0D
+      (n .drive .position .0 % 256 ∷ n .drive .position .0 / 256 ∷ percentOfPulse (n .drive .position) (n .settings .travel) .0 ∷ 0xFF
+      ∷ reportedIp (n .favourites) (n .drive .position) ∷ []))
+  pub status-is-told :
+      message b ≡ 0x0E
+      → turnOf n g b
+      ≡ replied n Keep (replyTo (n .settings) (headerOf b) 0x0F (statusOf n ∷ n .drive .direction ∷ n .drive .source ∷ n .drive .cause ∷ []))
+  pub an-IP-is-told :
+      message b ≡ 0x25 → 1 ≤ length (dataOf b) → 1 ≤ byteAt (dataOf b) 0 → byteAt (dataOf b) 0 ≤ 16
+      → (p : Pulse) → ipAt (n .favourites) (ip (byteAt (dataOf b) 0)) ≡ At p
+      → turnOf n g b
+      ≡ replied n Keep
+      (replyTo (n .settings) (headerOf b) 0x35 (byteAt (dataOf b) 0 ∷ 0xFF ∷ 0xFF ∷ percentOfPulse p (n .settings .travel) .0 ∷ []))
+  pub an-unset-IP-is-told-as-FFh :
+      message b ≡ 0x25 → 1 ≤ length (dataOf b) → 1 ≤ byteAt (dataOf b) 0 → byteAt (dataOf b) 0 ≤ 16
+      → ipAt (n .favourites) (ip (byteAt (dataOf b) 0)) ≡ Unset
+      → turnOf n g b ≡ replied n Keep (replyTo (n .settings) (headerOf b) 0x35 (byteAt (dataOf b) 0 ∷ 0xFF ∷ 0xFF ∷ 0xFF ∷ []))
+  pub the-lock-is-told :
+      message b ≡ 0x26
+      → turnOf n g b
+      ≡ replied n Keep
+      (replyTo (n .settings) (headerOf b) 0x36 (bit (n .lock .locked) ∷ (bytesOf (n .lock .holder) ++ (n .lock .priority ∷ bit (n .lock .saved) ∷ []))))
+  pub the-address-is-told : message b ≡ 0x40 → turnOf n g b ≡ replied n Keep (replyTo (n .settings) (headerOf b) 0x60 [])
+  pub a-group-is-told :
+      message b ≡ 0x41 → 1 ≤ length (dataOf b) → byteAt (dataOf b) 0 ≤ 15 → (low middle high : ℕ)
+      → getD g (byteAt (dataOf b) 0) [] ≡ low ∷ middle ∷ high ∷ []
+      → turnOf n g b ≡ replied n Keep (replyTo (n .settings) (headerOf b) 0x61 (byteAt (dataOf b) 0 ∷ low ∷ middle ∷ high ∷ []))
+  pub done-and-asked-is-answered-7Fh :
+      (after : Node) (change : Change) → outcomeOf n g (headerOf b) (dataOf b) ≡ acts after change → headerOf b .ack ≡ true
+      → turnOf n g b ≡ replied after change (replyTo (n .settings) (headerOf b) 0x7F [])
+  pub done-and-not-asked-is-silent :
+      (after : Node) (change : Change) → outcomeOf n g (headerOf b) (dataOf b) ≡ acts after change → headerOf b .ack ≡ false
+      → turnOf n g b ≡ silent after change
+  pub refused-and-asked-is-answered-6Fh :
+      (code : Code) → outcomeOf n g (headerOf b) (dataOf b) ≡ refuses code → headerOf b .ack ≡ true
+      → turnOf n g b ≡ replied n Keep (replyTo (n .settings) (headerOf b) 0x6F (codeOf code ∷ []))
+  pub refused-and-not-asked-is-silent :
+      (code : Code) → outcomeOf n g (headerOf b) (dataOf b) ≡ refuses code → headerOf b .ack ≡ false → turnOf n g b ≡ silent n Keep
+
 -- Of a sound board; one that is not is refused by row 33.
 pub record Board : Type 0 where
   pub sound-exactly-when-in-range : (n : Node) → BoardInRange n ↔ (sound n ≡ true)
@@ -225,6 +272,7 @@ pub record Board : Type 0 where
   pub events : Events
   pub what-a-message-does : (n : Node) (g : Groups) (b : List ℕ) → Arrives n g b → Effects n g b
   pub one-IP : OneIp
+  pub what-a-message-is-answered : (n : Node) (g : Groups) (b : List ℕ) → Arrives n g b → Answers n g b
 
 pub record Positions : Type 0 where
   pub percent-is-the-nearest-whole :
