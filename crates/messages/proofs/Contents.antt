@@ -12,7 +12,6 @@ use Rattle.meaning.specs.Choice.{either}
 use Rattle.frame.specs.declared.header.Header.{Header}
 use Rattle.travel.specs.Units.{ip}
 use Rattle.travel.specs.Position.{percentOfPulse, percent-at-most-100}
-use Rattle.travel.specs.declared.IpIndex.{IpIndex}
 use Rattle.travel.specs.declared.Pulse.{Pulse}
 use Rattle.board.specs.Favourites.{ipAt, isAt, isNumber, firstAt, reportedIp}
 use Rattle.board.specs.Node.{sound, statusOf}
@@ -23,15 +22,13 @@ use Rattle.board.specs.declared.whole.Node.{Node}
 use Rattle.board.proofs.Within.{both, position-within}
 use Rattle.board.proofs.Sound.{parts-of}
 use Rattle.turn.specs.Turn.{Groups}
+use Rattle.turn.specs.Replies.{Outcome, acts, posts, refuses}
 use Rattle.turn.proofs.Answered.{Sayable, Fit, no-bytes, one-more-byte}
-use Rattle.messages.specs.Fields.{byteAt, wordAt, holds, bit}
-use Rattle.messages.specs.Motor.{aimOf, isAim, targetOf, movingTo}
-use Rattle.messages.specs.Ips.{settingIp, orderOf, deletingFrom, percentOr}
+use Rattle.messages.specs.Fields.{byteAt, holds, bit}
+use Rattle.messages.specs.Ips.{percentOr}
 use Rattle.board.specs.Drive.{isRunning}
-use Rattle.board.specs.Lock.{admits}
-use Rattle.messages.specs.declared.favourites.Order.{Order}
-use Rattle.messages.specs.declared.favourites.Order.the-variants.{Delete, Here, AtPercent, Share, Nothing}
-use Rattle.messages.specs.Table.{outcomeOf, stopRow, moveRow, positionRow, statusRow, setIpRow, ipRow, setLockRow, lockRow, addressRow, groupRow, setGroupRow}
+use Rattle.messages.specs.Table.{outcomeOf, stopRow, moveRow, setIpRow, setLockRow, setGroupRow, positionRow, statusRow, ipRow, lockRow, addressRow, groupRow}
+use Rattle.messages.proofs.ActingRows.{PostsNothing, stop-posts-nothing, move-posts-nothing, set-ip-posts-nothing, set-lock-posts-nothing, set-group-posts-nothing}
 
 -- The node's numbers fit their types, as those of every node of the code do.
 pub record Typed (n : Node) : Type 0 where
@@ -67,6 +64,12 @@ status-fits n =
     either (λ (k : ℕ). k < 256) (n .lock .locked) (λ e. omega arith) λ e.
     either (λ (k : ℕ). k < 256) (n .drive .blocked) (λ f. omega arith) λ f.
     either (λ (k : ℕ). k < 256) (isRunning (n .drive .motion)) (λ g. omega arith) (λ g. omega arith)
+
+-- Where nothing is posted, nothing has to fit.
+says-nothing : (o : Outcome) → PostsNothing o → Sayable o
+says-nothing (acts after change) p = tt
+says-nothing (posts m content) p = absurd p
+says-nothing (refuses code) p = tt
 
 -- DATA of four bytes.
 four : (message a b c d : ℕ) → message < 255 → a < 256 → b < 256 → c < 256 → d < 256 → Fit message (a ∷ b ∷ c ∷ d ∷ [])
@@ -145,65 +148,17 @@ module _ (n : Node) (s : sound n ≡ true) (t : Typed n) where
       four 0x61 index (byteAt entry 0) (byteAt entry 1) (byteAt entry 2)
       (omega arith) (omega (arith, ltb-false 15 index f)) (g index 0) (g index 1) (g index 2)
 
-  stop-says : (d : List ℕ) → Sayable (stopRow n d)
-  unfolding stopRow
-  stop-says d = either Sayable (not (holds 1 d)) (λ e. tt) λ e. either Sayable (n .lock .locked) (λ f. tt) (λ f. tt)
-
-  moving-says : (x : Ip) → Sayable (movingTo n x)
-  moving-says Unset = tt
-  moving-says (At p) = tt
-
-  move-says : (d : List ℕ) → Sayable (moveRow n d)
-  unfolding moveRow
-  move-says d =
-      let aim = aimOf (byteAt d 0) (wordAt d 1) in
-      either Sayable (not (holds 4 d)) (λ e. tt) λ e.
-      either Sayable (not (isAim aim)) (λ f. tt) λ f.
-      either Sayable (n .lock .locked) (λ g. tt) λ g.
-      either Sayable (n .drive .blocked) (λ k. tt) λ k.
-      moving-says (targetOf n aim)
-
-  deleting-says : (i : IpIndex) (x : Ip) → Sayable (deletingFrom n i x)
-  deleting-says i Unset = tt
-  deleting-says i (At p) = tt
-
-  setting-ip-says : (o : Order) → Sayable (settingIp n o)
-  setting-ip-says (Delete i) = deleting-says i (ipAt (n .favourites) i)
-  setting-ip-says (Here i) = tt
-  setting-ip-says (AtPercent i k) = tt
-  setting-ip-says (Share k) = tt
-  setting-ip-says Nothing = tt
-
-  set-ip-says : (d : List ℕ) → Sayable (setIpRow n d)
-  unfolding setIpRow
-  set-ip-says d = either Sayable (not (holds 4 d)) (λ e. tt) (λ e. setting-ip-says (orderOf (byteAt d 0) (ip (byteAt d 1)) (wordAt d 2)))
-
-  set-lock-says : (h : Header) (d : List ℕ) → Sayable (setLockRow n (h .source) d)
-  unfolding setLockRow
-  set-lock-says h d =
-      let function = byteAt d 0 in
-      let admitted = not (admits (n .lock) (byteAt d 1)) in
-      either Sayable (not (holds 2 d)) (λ e. tt) λ e.
-      either Sayable (eqb function 0) (λ f. either Sayable admitted (λ g. tt) (λ g. tt)) λ f.
-      either Sayable (eqb function 1) (λ g. either Sayable admitted (λ k. tt) (λ k. tt)) λ g.
-      either Sayable (eqb function 3) (λ k. tt) λ k.
-      either Sayable (eqb function 4) (λ l. tt) (λ l. tt)
-
-  set-group-says : (d : List ℕ) → Sayable (setGroupRow n d)
-  unfolding setGroupRow
-  set-group-says d = either Sayable (not (holds 4 d)) (λ e. tt) λ e. either Sayable (ltb 15 (byteAt d 0)) (λ f. tt) (λ f. tt)
-
   pub every-post-fits-a-frame : (groups : Groups) (h : Header) (d : List ℕ) → TypedTable groups → Sayable (outcomeOf n groups h d)
   unfolding outcomeOf
   every-post-fits-a-frame groups h d g =
-      either Sayable (eqb (h .message) 0x02) (λ e. stop-says d) λ e.
-      either Sayable (eqb (h .message) 0x03) (λ e. move-says d) λ e.
+      either Sayable (eqb (h .message) 0x02) (λ e. says-nothing (stopRow n d) (stop-posts-nothing n d)) λ e.
+      either Sayable (eqb (h .message) 0x03) (λ e. says-nothing (moveRow n d) (move-posts-nothing n d)) λ e.
       either Sayable (eqb (h .message) 0x0C) (λ e. position-fits) λ e.
       either Sayable (eqb (h .message) 0x0E) (λ e. status-row-fits) λ e.
-      either Sayable (eqb (h .message) 0x15) (λ e. set-ip-says d) λ e.
+      either Sayable (eqb (h .message) 0x15) (λ e. says-nothing (setIpRow n d) (set-ip-posts-nothing n d)) λ e.
       either Sayable (eqb (h .message) 0x25) (λ e. ip-fits d) λ e.
-      either Sayable (eqb (h .message) 0x16) (λ e. set-lock-says h d) λ e.
+      either Sayable (eqb (h .message) 0x16) (λ e. says-nothing (setLockRow n (h .source) d) (set-lock-posts-nothing n h d)) λ e.
       either Sayable (eqb (h .message) 0x26) (λ e. lock-fits) λ e.
       either Sayable (eqb (h .message) 0x40) (λ e. address-fits) λ e.
       either Sayable (eqb (h .message) 0x41) (λ e. group-fits groups d g) λ e.
-      either Sayable (eqb (h .message) 0x51) (λ e. set-group-says d) (λ e. tt)
+      either Sayable (eqb (h .message) 0x51) (λ e. says-nothing (setGroupRow n d) (set-group-posts-nothing n d)) (λ e. tt)

@@ -13,11 +13,11 @@ use borrow.Author.Tests.{le-leb, lt-leb}
 use Rattle.refusal.specs.declared.Refusal.{Refusal}
 use Rattle.motors.specs.Motor.{zeros, unread, earlierOf, isMotor, isLine}
 use Rattle.motors.specs.Register.{filled, soundOf, foundIn}
-use Rattle.motors.specs.Places.{placeOf, inserted, removed}
 use Rattle.motors.specs.Filing.{renewed, entered, enteredOf, without, struckOf, isSome, refusing}
 use Rattle.motors.specs.declared.answer.Answer.the-variants.{Count}
 use Rattle.motors.specs.declared.answer.Next.{Next}
 use Rattle.motors.specs.declared.motor.Motor.{Motor}
+use Rattle.motors.proofs.Gaps.{placeOf, inserted, removed}
 use Rattle.motors.proofs.Cases.{by-test}
 use Rattle.motors.proofs.Order.{earlier-is-another, else-later}
 use Rattle.motors.proofs.InOrder.{InOrder, Sound, sound-is}

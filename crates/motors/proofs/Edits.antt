@@ -9,8 +9,8 @@ use mathlib.Core.List.{List, [], _∷_, _++_}
 use lib.ListN.{length, getD, set, take, drop, length-set, length-append, length-take, length-drop, List·getD-append}
 use lib.Seq.{getD-take, getD-drop, getD-append-add, getD-set-same, getD-set-other, ext-getD}
 use Rattle.motors.specs.Motor.{zeros}
-use Rattle.motors.specs.Places.{inserted, removed}
 use Rattle.motors.specs.declared.motor.Motor.{Motor}
+use Rattle.motors.proofs.Gaps.{inserted, removed}
 
 -- Of `b`, edited in place from the front, the first i places are already the target's, the rest still the old run's.
 pub record Edited (l t : List Motor) (i : ℕ) (b : List Motor) : Type 0 where

@@ -14,7 +14,7 @@ use borrow.Author.Tests.{ltb-true, ltb-false, lt-ltb, leb-true, leb-false, ne-eq
 use Rattle.refusal.specs.declared.Refusal.{Refusal}
 use Rattle.motors.specs.Motor.{zeros, unread, isLine}
 use Rattle.motors.specs.Register.{soundOf, filled}
-use Rattle.motors.specs.Places.{placeOf, inserted, removed, carriedUp, carriedDown, movedUp, movedDown}
+use Rattle.motors.specs.Places.{carriedUp, carriedDown, movedUp, movedDown}
 use Rattle.motors.specs.Report.{reportOf}
 use Rattle.motors.specs.Survey.{surveyOf}
 use Rattle.motors.specs.Edit.{edit, leaving, subjectOf, toEnter, toFileBy, toFile, toStrike}
@@ -27,6 +27,7 @@ use Rattle.motors.specs.declared.motor.Motor.{Motor}
 use Rattle.motors.specs.declared.survey.Survey.{Survey}
 use Rattle.motors.specs.declared.report.Report.{Report}
 use Rattle.motors.specs.declared.report.Report.the-variants as report
+use Rattle.motors.proofs.Gaps.{placeOf, inserted, removed}
 use Rattle.motors.proofs.Cases.{by-test}
 use Rattle.motors.proofs.InOrder.{Sound, sound-is}
 use Rattle.motors.proofs.AtPlaces.{place-at-most, enters-again, row-24, enters-new, strikes, row-25}

@@ -1,3 +1,4 @@
+pub mod Gaps
 pub mod ReportRows
 pub mod Edits
 pub mod Cases

@@ -11,10 +11,10 @@ use borrow.Author.Tests.{ltb-true, ltb-false, lt-ltb, le-ltb, le-leb, lt-leb}
 use Rattle.meaning.specs.Choice.{if_then_else_}
 use Rattle.motors.specs.Motor.{zeros, earlierOf, isMotor}
 use Rattle.motors.specs.Register.{places, soundFrom, soundOf, standsOf}
-use Rattle.motors.specs.Places.{placeOf}
 use Rattle.motors.specs.Survey.{survey, begun, soundAfter, past, passed, surveyOf}
 use Rattle.motors.specs.declared.motor.Motor.{Motor}
 use Rattle.motors.specs.declared.survey.Survey.{Survey}
+use Rattle.motors.proofs.Gaps.{placeOf}
 use Rattle.motors.proofs.Cases.{by-test}
 use Rattle.motors.proofs.AtPlaces.{place-past, place-here}
 

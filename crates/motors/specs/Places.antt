@@ -1,25 +1,12 @@
--- Places of the register, counted from 0.
+-- Records of the register that move by one place; places are counted from 0.
 -- Assumes nothing.
 use Prim.Native.Nat.{ℕ, zero, suc, _+_, _-_}
-use mathlib.Core.List.{List, [], _∷_, _++_}
+use mathlib.Core.List.{List}
 use lib.Dec.{ltb}
-use lib.ListN.{length, take, drop, getD, set}
+use lib.ListN.{length, getD, set}
 use Rattle.meaning.specs.Choice.{if_then_else_}
-use Rattle.motors.specs.Motor.{zeros, earlierOf}
+use Rattle.motors.specs.Motor.{zeros}
 use Rattle.motors.specs.declared.motor.Motor.{Motor}
-
--- How many of the first records are earlier than a motor: the place where it stands or would stand.
-unfoldable pub placeOf : List Motor → Motor → ℕ
-placeOf [] m = 0
-placeOf (x ∷ l) m = if earlierOf x m then suc (placeOf l m) else 0
-
--- A motor put in at a place: those behind it move up by one, and the last place falls off.
-unfoldable pub inserted : List Motor → ℕ → Motor → List Motor
-inserted run place m = take place run ++ m ∷ take (255 - place) (drop place run)
-
--- A place given back: those behind it move down by one, and the last becomes zeros.
-unfoldable pub removed : List Motor → ℕ → List Motor
-removed run place = take place run ++ (drop (suc place) run ++ zeros ∷ [])
 
 -- A motor put in at a place, and the record there at the next, over so many places: what the last one held is carried out.
 unfoldable pub carriedUp : List Motor → (at n : ℕ) → Motor → List Motor

@@ -1,4 +1,4 @@
-// The register of motors by value: 256 places with a count, filing a frame that came in on a line, and striking a motor out.
+// The register of motors: what a frame reports, one pass over the places, and what a call does to them; filing and striking out by value.
 mod answer;
 mod edit;
 mod filing;
