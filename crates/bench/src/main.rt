@@ -1,94 +1,65 @@
 // The bench: a console for one board, one register and one line. Everything that matters is in the libraries.
-mod book;
-mod command;
-mod desk;
-mod input;
-mod numbers;
-mod rows;
-mod state;
-mod wire;
-mod words;
+mod bus;
 
-use command::Part;
-use command::command_of;
-use command::part_of;
-use input::take_line;
-use input::text_of;
-use input::whole_line;
-use libc::STDIN_FILENO;
+use board_room::no_board;
+use board_room::put_board;
+use bus::groups_after;
+use bus::on_bus;
+use console::Input;
+use console::Length;
+use console::first;
+use console::order_of;
+use console::text_of;
 use libc::STDOUT_FILENO;
 use line::Reader;
-use numbers::Count;
-use numbers::first;
-use words::Words;
+use register_room::at_register;
+use register_room::no_motors;
+use register_room::put_register;
+use wire_room::at_wire;
+use wire_room::put_wire;
 
 // Rows are written out once so many bytes of them have gathered, and before more is read; behind that the longest answer has room.
 const GATHERED: usize = 32768;
 
+// Each order goes to each room, and a room passes over what is not its own.
 // A loop has to end, and nothing says that the input does: the turns are counted down from a number that no run uses up.
 fn main() {
-    let mut desk = desk::empty();
+    let mut node = no_board();
     let mut groups = node::no_groups();
-    let mut book = book::empty();
+    let mut motors = no_motors();
+    let mut count: usize = 0;
     let mut reader = Reader::fresh();
+    let mut input = Input::begun();
     let mut chunk = io::large_buffer();
     let mut out = io::large_buffer();
+    let mut bytes = io::buffer();
     let mut line = [0u8; 8193];
-    let mut have: usize = 0;
-    let mut from: usize = 0;
-    let mut held: usize = 0;
     let mut at: usize = 0;
     let mut turns = u64::MAX;
     while turns > 0 {
         turns -= 1;
-        if from >= have {
-            have = read_some(&mut chunk);
-            from = 0;
+        input = input.more(&mut chunk, &mut line);
+        let whole = input.length(&line);
+        if let Length::Is(length) = whole {
+            let order = order_of(text_of(&line, length), length, &mut bytes);
+            let shown = on_bus(node, groups, order, &bytes);
+            let table = groups_after(groups, shown);
+            groups = table;
+            node = shown.node;
+            at = put_board(shown, groups, order, &mut out, at);
+            let kept = at_register(motors, count, order, &bytes);
+            motors = kept.motors;
+            count = kept.count;
+            at = put_register(kept, order, &mut out, at);
+            let heard = at_wire(reader, order, &bytes);
+            reader = heard.reader;
+            at = put_wire(heard, &mut out, at);
         }
-        let over = have == 0;
-        let taken = take_line(&chunk, have, from, &mut line, held);
-        from = taken.next;
-        held = taken.held;
-        let whole = whole_line(&line, taken, over);
-        if let Count::Is(length) = whole {
-            held = 0;
-            let text = text_of(&line, length);
-            let words = Words::of(text);
-            let command = command_of(text, length, words);
-            match part_of(command) {
-                Part::Board => {
-                    let shown = desk::desk_row(desk, groups, command, text, words, &mut out, at);
-                    desk = shown.desk;
-                    let change = shown.change;
-                    let table = node::apply(groups, change);
-                    groups = table;
-                    if shown.fresh {
-                        groups = node::no_groups();
-                    }
-                    at = shown.at;
-                }
-                Part::Register => {
-                    let kept = book::book_row(book, command, text, words, &mut out, at);
-                    book = kept.book;
-                    at = kept.at;
-                }
-                Part::Wire => {
-                    let heard = wire::wire_row(reader, command, text, words, &mut out, at);
-                    reader = heard.reader;
-                    at = heard.at;
-                }
-            }
-        }
-        at = write_out(&out, at, from >= have);
-        if over {
+        at = write_out(&out, at, input.used_up());
+        if input.over {
             break;
         }
     }
-}
-
-fn read_some(chunk: &mut [u8; 65536]) -> usize {
-    let got = libc::read(STDIN_FILENO, chunk);
-    io::count(got, chunk)
 }
 
 // The rows gathered, where they are many or all that was read is answered: whoever types a line sees its row.

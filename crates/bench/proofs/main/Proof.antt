@@ -5,10 +5,10 @@ use Rattle.bench.proofs.main.Statement.{statement}
 use Rattle.bench.proofs.main.Tie as tie
 
 abbrev Inv-loop : tie.InvT-loop
-Inv-loop desk₀ groups₀ book₀ reader₀ chunk₀ out₀ line₀ have₀ from₀ held₀ at₀ turns₀ desk groups book reader chunk out line have from held at turns = Unit {0}
+Inv-loop node₀ groups₀ motors₀ count₀ reader₀ input₀ chunk₀ out₀ bytes₀ line₀ at₀ turns₀ node groups motors count reader input chunk out bytes line at turns = Unit {0}
 
 abbrev μ-loop : tie.MeasureT-loop
-μ-loop desk₀ groups₀ book₀ reader₀ chunk₀ out₀ line₀ have₀ from₀ held₀ at₀ turns₀ desk groups book reader chunk out line have from held at turns = turns
+μ-loop node₀ groups₀ motors₀ count₀ reader₀ input₀ chunk₀ out₀ bytes₀ line₀ at₀ turns₀ node groups motors count reader input chunk out bytes line at turns = turns
 
 pub main-spec : {M : Type 1} → statement M
 main-spec =
@@ -22,27 +22,26 @@ main-spec =
     (λ c κs. search needs)
     (λ c κs. search needs)
     (λ c κs. search needs)
-    (λ c. tt)
+    (λ c κs. search needs)
+    (λ c κs. search needs)
+    (λ c. search needs)
+    (λ c. search needs)
+    (λ c κs. search needs)
+    (λ c κs. search needs)
     (λ c. search needs)
     (λ c κs. search needs)
     (λ c κs. search needs)
     (λ c κs. search needs)
-    (λ c. search needs)
     (λ c κs. search needs)
     (λ c κs. search needs)
     (λ c κs. search needs)
-    (λ c κs. search needs)
-    (λ c. search needs)
     (λ c κs. search needs)
     (λ c κs. search needs)
     (λ c κs. search needs)
     (λ c. search needs)
     (λ c κs. search needs)
-    (λ c. search needs)
     (λ c κs. search needs)
     (λ c. search needs)
-    (λ c κs. search needs)
     (λ c. search needs)
-    (λ c. tt)
     (λ c. search needs)
     (λ c. search needs))

@@ -1,0 +1,157 @@
+// The board's commands. A board that was never set up is not sound, and no call makes a sound one unsound.
+use crate::state::put_state;
+use board::After;
+use board::Node;
+use board::Settings;
+use board::Verdict;
+use console::Command;
+use console::Order;
+use console::Row;
+use console::Said;
+use console::Values;
+use console::plainly;
+use console::put_said;
+use console::refused;
+use console::with_bytes;
+use frame::Address;
+use travel::Pulse;
+use turn::Answer;
+use turn::Change;
+use turn::Turn;
+
+// The board after a command, its change of the group table, whether that is fresh, and the answer.
+pub struct Shown {
+    pub node: Node,
+    pub change: Change,
+    pub fresh: bool,
+    pub said: Said,
+}
+
+// A command of the board but `frame`; any other is passed over.
+pub fn at_board(node: Node, order: Order) -> Shown {
+    let command = order.command;
+    let values = order.values;
+    match command {
+        Command::SetUp => set_up(node, values),
+        Command::Pulse | Command::Blocked | Command::Cleared | Command::Power => event(
+            node,
+            command,
+            values,
+        ),
+        _ => unchanged(node, plainly(Row::Pass)),
+    }
+}
+
+// The answer, or the row of `state`.
+pub fn put_board(
+    shown: Shown,
+    groups: [[u8; 3]; 16],
+    order: Order,
+    out: &mut [u8; 65536],
+    at: usize,
+) -> usize {
+    let command = order.command;
+    if let Command::State = command {
+        let node = shown.node;
+        return put_state(node, groups, out, at);
+    }
+    let said = shown.said;
+    put_said(out, at, said)
+}
+
+// The group table stays as it is.
+fn unchanged(node: Node, said: Said) -> Shown {
+    Shown {
+        node,
+        change: Change::Keep,
+        fresh: false,
+        said,
+    }
+}
+
+pub fn no_node(node: Node) -> Shown {
+    unchanged(node, plainly(Row::NoNode))
+}
+
+// A fresh start has no board.
+pub fn no_board() -> Node {
+    let after = board::set_up(settings(Values::none()));
+    after.node
+}
+
+// `node ID DEC DEC`
+fn settings(values: Values) -> Settings {
+    Settings {
+        id: Address(values.large(1)),
+        kind: values.small(2),
+        travel: Pulse(values.medium(3)),
+    }
+}
+
+// On success board and table are fresh; a refusal leaves the earlier ones.
+fn set_up(node: Node, values: Values) -> Shown {
+    let after = board::set_up(settings(values));
+    let verdict = after.verdict;
+    let made = after.node;
+    match verdict {
+        Verdict::Done => Shown {
+            node: made,
+            change: Change::Keep,
+            fresh: true,
+            said: plainly(Row::Ready),
+        },
+        Verdict::Refused(refusal) => unchanged(node, refused(refusal)),
+    }
+}
+
+fn event(node: Node, command: Command, values: Values) -> Shown {
+    if !node.is_sound() {
+        return no_node(node);
+    }
+    let after = after(node, command, values);
+    let node = after.node;
+    let verdict = after.verdict;
+    unchanged(node, told(verdict))
+}
+
+// `pulse DEC`, `blocked BYTE`, `cleared`, `power`
+fn after(node: Node, command: Command, values: Values) -> After {
+    match command {
+        Command::Pulse => board::at_pulse(node, Pulse(values.medium(1))),
+        Command::Blocked => board::blocked(node, values.small(1)),
+        Command::Cleared => board::cleared(node),
+        _ => board::power_up(node),
+    }
+}
+
+fn told(verdict: Verdict) -> Said {
+    match verdict {
+        Verdict::Done => plainly(Row::Done),
+        Verdict::Refused(refusal) => refused(refusal),
+    }
+}
+
+// `frame HEX`: what its turn leads to.
+pub fn after_turn(turn: Turn) -> Shown {
+    let node = turn.node;
+    let change = turn.change;
+    Shown {
+        node,
+        change,
+        fresh: false,
+        said: answered(turn),
+    }
+}
+
+fn answered(turn: Turn) -> Said {
+    let answer = turn.answer;
+    let reply = turn.reply;
+    match answer {
+        Answer::Silent => plainly(Row::Silent),
+        Answer::Replied => {
+            let bytes = reply.bytes;
+            with_bytes(Row::Reply, bytes, reply.count)
+        }
+        Answer::Refused(refusal) => refused(refusal),
+    }
+}

@@ -1,0 +1,10 @@
+// The board on the bench: its commands, and its rows.
+mod commands;
+mod state;
+
+pub use commands::Shown;
+pub use commands::after_turn;
+pub use commands::at_board;
+pub use commands::no_board;
+pub use commands::no_node;
+pub use commands::put_board;

@@ -1,0 +1,91 @@
+// Which command a line is.
+use crate::tables::ask;
+use crate::values::Values;
+
+pub enum Command {
+    // An empty line or a comment.
+    Pass,
+    // No command, or malformed.
+    Bad,
+    SetUp,
+    Frame,
+    Pulse,
+    Blocked,
+    Cleared,
+    Power,
+    State,
+    Line,
+    Strike,
+    Motors,
+    Store,
+    Load,
+    Byte,
+    Close,
+    Write,
+}
+
+// A command and the values of its words, the first of them its own name.
+pub struct Order {
+    pub command: Command,
+    pub values: Values,
+}
+
+// The longest line that is one.
+const LONGEST: usize = 8192;
+
+// The bytes of a HEX word go into the run that is lent.
+pub fn order_of(line: &[u8], length: usize, bytes: &mut [u8; 4096]) -> Order {
+    if passed_over(line) {
+        return none(Command::Pass);
+    }
+    if length > LONGEST {
+        return none(Command::Bad);
+    }
+    let asked = ask(
+        line,
+        b"node ism;frame x;pulse m;blocked b;cleared ;power ;state ;line sx;strike si;motors ;store ;load x;byte bm;close ;write bfssllx;",
+        bytes,
+    );
+    let values = asked.values;
+    if !values.formed {
+        return none(Command::Bad);
+    }
+    Order {
+        command: command_of(asked.number),
+        values,
+    }
+}
+
+fn passed_over(line: &[u8]) -> bool {
+    if line.len() == 0 {
+        return true;
+    }
+    line[0] == b'#'
+}
+
+fn none(command: Command) -> Order {
+    let values = Values::none();
+    Order { command, values }
+}
+
+// By its number in the table.
+fn command_of(number: usize) -> Command {
+    match number {
+        0 => Command::SetUp,
+        1 => Command::Frame,
+        2 => Command::Pulse,
+        3 => Command::Blocked,
+        4 => Command::Cleared,
+        5 => Command::Power,
+        6 => Command::State,
+        7 => Command::Line,
+        8 => Command::Strike,
+        9 => Command::Motors,
+        10 => Command::Store,
+        11 => Command::Load,
+        12 => Command::Byte,
+        13 => Command::Close,
+        14 => Command::Write,
+        _ => Command::Bad,
+    }
+}
