@@ -4,6 +4,7 @@
  *
  *   beside                      for each row its title and the ratio of the two
  *                               medians: over 1, the proved code is the slower
+ *   beside answers              the same numbers, once through each row, untimed
  *   beside ROW SIDE TIMES       one side of one row alone, so many times, for
  *                               whoever counts its instructions
  *
@@ -273,21 +274,33 @@ static void prepare(const struct row *row)
         reports_of_motors(row->motors);
 }
 
+/* Both sides of a row, once. */
+static bool same_answer(const struct row *row, double *proved_taken, double *second_taken)
+{
+    uint64_t one = timed(row->proved, proved_taken);
+    uint64_t other = timed(row->second, second_taken);
+    if (one != other)
+        fprintf(stderr, "%s: the proved code gives %llu, the second program's %llu\n", row->title,
+                (unsigned long long)one, (unsigned long long)other);
+    return one == other;
+}
+
 static bool compare(const struct row *row)
 {
     double proved_taken[ROUNDS], second_taken[ROUNDS];
     prepare(row);
-    for (size_t round = 0; round < ROUNDS; round++) {
-        uint64_t one = timed(row->proved, &proved_taken[round]);
-        uint64_t other = timed(row->second, &second_taken[round]);
-        if (one != other) {
-            fprintf(stderr, "%s: the proved code gives %llu, the second program's %llu\n", row->title,
-                    (unsigned long long)one, (unsigned long long)other);
+    for (size_t round = 0; round < ROUNDS; round++)
+        if (!same_answer(row, &proved_taken[round], &second_taken[round]))
             return false;
-        }
-    }
     printf("%s|%.2f\n", row->title, median(proved_taken) / median(second_taken));
     return true;
+}
+
+static bool compare_answers(const struct row *row)
+{
+    double proved_taken, second_taken;
+    prepare(row);
+    return same_answer(row, &proved_taken, &second_taken);
 }
 
 static void run_alone(const struct row *row, bool proved, uint32_t times)
@@ -305,8 +318,9 @@ int main(int count, char **arguments)
         run_alone(&rows[row], strcmp(arguments[2], "proved") == 0, times);
         return 0;
     }
+    bool answers = count == 2 && strcmp(arguments[1], "answers") == 0;
     for (size_t at = 0; at < ROWS; at++)
-        if (!compare(&rows[at]))
+        if (!(answers ? compare_answers(&rows[at]) : compare(&rows[at])))
             return 1;
     return 0;
 }
