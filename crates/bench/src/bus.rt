@@ -18,7 +18,7 @@ pub fn on_bus(node: Node, groups: [[u8; 3]; 16], order: Order, bytes: &[u8; 4096
     if !node.is_sound() {
         return no_node(node);
     }
-    after_turn(node::on_frame(node, groups, first(bytes, values.count(1))))
+    after_turn(node::on_frame(node, groups, first(bytes, values.count(0))))
 }
 
 // The table after a command.

@@ -82,9 +82,9 @@ pub fn no_board() -> Node {
 // `node ID DEC DEC`
 fn settings(values: Values) -> Settings {
     Settings {
-        id: Address(values.large(1)),
-        kind: values.small(2),
-        travel: Pulse(values.medium(3)),
+        id: Address(values.large(0)),
+        kind: values.small(1),
+        travel: Pulse(values.medium(2)),
     }
 }
 
@@ -117,8 +117,8 @@ fn event(node: Node, command: Command, values: Values) -> Shown {
 // `pulse DEC`, `blocked BYTE`, `cleared`, `power`
 fn after(node: Node, command: Command, values: Values) -> After {
     match command {
-        Command::Pulse => board::at_pulse(node, Pulse(values.medium(1))),
-        Command::Blocked => board::blocked(node, values.small(1)),
+        Command::Pulse => board::at_pulse(node, Pulse(values.medium(0))),
+        Command::Blocked => board::blocked(node, values.small(0)),
         Command::Cleared => board::cleared(node),
         _ => board::power_up(node),
     }

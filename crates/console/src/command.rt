@@ -1,6 +1,9 @@
 // Which command a line is.
-use crate::tables::ask;
+use crate::parts::part;
+use crate::parts::parts;
 use crate::values::Values;
+use crate::values::read;
+use check::same;
 
 pub enum Command {
     // An empty line or a comment.
@@ -24,7 +27,7 @@ pub enum Command {
     Write,
 }
 
-// A command and the values of its words, the first of them its own name.
+// A command and the values of the words behind its name.
 pub struct Order {
     pub command: Command,
     pub values: Values,
@@ -41,19 +44,30 @@ pub fn order_of(line: &[u8], length: usize, bytes: &mut [u8; 4096]) -> Order {
     if length > LONGEST {
         return none(Command::Bad);
     }
-    let asked = ask(
-        line,
-        b"node ism;frame x;pulse m;blocked b;cleared ;power ;state ;line sx;strike si;motors ;store ;load x;byte bm;close ;write bfssllx;",
-        bytes,
-    );
-    let values = asked.values;
+    let table =
+        b"node ism;frame x;pulse m;blocked b;cleared ;power ;state ;line sx;strike si;motors ;store ;load x;byte bm;close ;write bfssllx";
+    let number = row_named(table, part(line, b' ', 0));
+    let row = part(table, b';', number);
+    let values = read(line, part(row, b' ', 1), bytes);
     if !values.formed {
         return none(Command::Bad);
     }
     Order {
-        command: command_of(asked.number),
+        command: command_of(number),
         values,
     }
+}
+
+// The number of the row that begins with a name, how many rows there are where none does.
+fn row_named(table: &[u8], name: &[u8]) -> usize {
+    let count = parts(table, b';');
+    for number in 0..count {
+        let row = part(table, b';', number);
+        if same(part(row, b' ', 0), name) {
+            return number;
+        }
+    }
+    count
 }
 
 fn passed_over(line: &[u8]) -> bool {

@@ -1,11 +1,10 @@
 // The text side of a console: lines out of what is read, the command that a line is, the values of its words, and rows of text.
 mod command;
 mod lines;
+mod parts;
 mod rows;
 mod said;
-mod tables;
 mod values;
-mod words;
 
 pub use command::Command;
 pub use command::Order;

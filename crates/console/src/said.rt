@@ -1,7 +1,7 @@
 // What a command is answered, as a value, and its row.
+use crate::parts::part;
 use crate::rows::first;
 use crate::rows::put_row;
-use crate::tables::row_of;
 use refusal::Refusal;
 
 pub enum Row {
@@ -58,10 +58,8 @@ pub fn put_said(out: &mut [u8], at: usize, said: Said) -> usize {
     if place == 0 {
         return at;
     }
-    let pattern = row_of(
-        b";bad line;ready;done;no node;silent;none;refused #;reply *;frame *;wire *;",
-        place,
-    );
+    let table = b";bad line;ready;done;no node;silent;none;refused #;reply *;frame *;wire *";
+    let pattern = part(table, b';', place);
     put_row(
         out,
         at,

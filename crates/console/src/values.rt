@@ -1,6 +1,9 @@
-// What the words of a line stand for, by a letter for each: a space is the command's own name, `f`, `s`, `m` and `l` are DEC up to 1, 255, 65,535
-// and 4,294,967,295, `b` is BYTE, `i` is ID, and `x` is HEX, whose bytes go into a lent run and whose count is the value.
-use crate::words::Words;
+// What the words of a line stand for, by a letter for each word behind the first: `f`, `s`, `m` and `l` are DEC up to 1, 255, 65,535 and
+// 4,294,967,295, `b` is BYTE, `i` is ID, and `x` is HEX, whose bytes go into a lent run and whose count is the value.
+use crate::parts::between;
+use crate::parts::part;
+use crate::parts::parts;
+use std::num::wrapping_add_u64;
 
 pub struct Values {
     // There is a word for each letter, and it is well formed.
@@ -38,17 +41,17 @@ impl Values {
 }
 
 // Each word by its letter.
-pub fn read(line: &[u8], words: Words, letters: &[u8], bytes: &mut [u8]) -> Values {
+pub fn read(line: &[u8], letters: &[u8], bytes: &mut [u8]) -> Values {
     let mut values = Values::none();
     let count = letters.len();
-    if count > 8 {
+    if count >= 8 {
         return values;
     }
-    if words.count != count {
+    if parts(line, b' ') != count + 1 {
         return values;
     }
     for i in 0..count {
-        let value = value_of(words.word(line, i), letters[i], bytes);
+        let value = value_of(part(line, b' ', i + 1), letters[i], bytes);
         let Value::Is(number) = value else {
             return values;
         };
@@ -65,7 +68,6 @@ enum Value {
 
 fn value_of(word: &[u8], letter: u8, bytes: &mut [u8]) -> Value {
     match letter {
-        b' ' => Value::Is(0),
         b'f' => decimal(word, 1),
         b's' => decimal(word, 255),
         b'm' => decimal(word, 65535),
@@ -78,28 +80,35 @@ fn value_of(word: &[u8], letter: u8, bytes: &mut [u8]) -> Value {
 
 // DEC: 1 to 10 digits, up to a greatest number.
 fn decimal(word: &[u8], most: u64) -> Value {
-    let count = word.len();
-    if count == 0 {
+    if word.len() > 10 {
         return Value::Malformed;
     }
-    if count > 10 {
+    number(word, 10, most)
+}
+
+// BYTE and ID: so many digits, the number as printed on the label, high byte first.
+fn hexadecimal(word: &[u8], digits: usize) -> Value {
+    if word.len() != digits {
+        return Value::Malformed;
+    }
+    number(word, 16, 0xFF_FFFF)
+}
+
+// A number of at least one digit.
+fn number(word: &[u8], base: u8, most: u64) -> Value {
+    if word.len() == 0 {
         return Value::Malformed;
     }
     let mut total: u64 = 0;
-    let mut i = 0;
-    while i < word.len() {
-        let digit = word[i];
-        if digit < b'0' {
+    for i in 0..word.len() {
+        let digit = digit_of(word[i]);
+        if digit >= base {
             return Value::Malformed;
         }
-        if digit > b'9' {
-            return Value::Malformed;
-        }
-        total = total * 10 + ((digit - b'0') as u64);
+        total = wrapping_add_u64(scaled(total, base), digit as u64);
         if total > 0xFFFF_FFFF {
             return Value::Malformed;
         }
-        i += 1;
     }
     if total > most {
         return Value::Malformed;
@@ -107,55 +116,44 @@ fn decimal(word: &[u8], most: u64) -> Value {
     Value::Is(total as u32)
 }
 
-// BYTE and ID: so many digits, 2 or 6, the number as printed on the label, high byte first.
-fn hexadecimal(word: &[u8], digits: usize) -> Value {
-    if word.len() != digits {
-        return Value::Malformed;
+// A total of at most 32 bits, with room for one more digit.
+fn scaled(total: u64, base: u8) -> u64 {
+    if base == 16 {
+        return total % 0x1_0000_0000 * 16;
     }
-    let mut total: u32 = 0;
-    let mut i = 0;
-    while i < word.len() {
-        let digit = digit_of(word[i]);
-        if digit > 15 {
-            return Value::Malformed;
-        }
-        total = total % 0x10_0000 * 16 + digit as u32;
-        i += 1;
-    }
-    Value::Is(total)
+    total % 0x1_0000_0000 * 10
 }
 
 // HEX of any even number of digits, into the bytes that are lent; `-` is none.
 fn bytes_of(word: &[u8], bytes: &mut [u8]) -> Value {
-    if word.len() == 1 {
-        if word[0] == b'-' {
-            return Value::Is(0);
-        }
+    if is_dash(word) {
+        return Value::Is(0);
     }
     let count = word.len() / 2;
-    if count * 2 != word.len() {
-        return Value::Malformed;
-    }
     if count == 0 {
         return Value::Malformed;
     }
     if count > bytes.len() {
         return Value::Malformed;
     }
-    let mut i = 0;
-    while i < count {
-        let high = digit_of(word[2 * i]);
-        let low = digit_of(word[2 * i + 1]);
-        if high > 15 {
+    if word.len() % 2 != 0 {
+        return Value::Malformed;
+    }
+    for i in 0..count {
+        let value = hexadecimal(between(word, 2 * i, 2 * i + 2), 2);
+        let Value::Is(byte) = value else {
             return Value::Malformed;
-        }
-        if low > 15 {
-            return Value::Malformed;
-        }
-        bytes[i] = high * 16 + low;
-        i += 1;
+        };
+        bytes[i] = (byte % 256) as u8;
     }
     Value::Is((count % 65536) as u32)
+}
+
+fn is_dash(word: &[u8]) -> bool {
+    if word.len() != 1 {
+        return false;
+    }
+    word[0] == b'-'
 }
 
 // The value of a hexadecimal digit of either case, 16 for any other byte.

@@ -74,11 +74,11 @@ fn next(
         Command::Line => motors::file(
             motors,
             count,
-            values.small(1),
-            first(bytes, values.count(2)),
+            values.small(0),
+            first(bytes, values.count(1)),
         ),
-        Command::Strike => motors::strike(motors, count, values.small(1), values.large(2)),
-        _ => form::read(motors, first(bytes, values.count(1))),
+        Command::Strike => motors::strike(motors, count, values.small(0), values.large(1)),
+        _ => form::read(motors, first(bytes, values.count(0))),
     }
 }
 

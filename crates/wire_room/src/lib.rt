@@ -26,11 +26,11 @@ pub fn at_wire(reader: Reader, order: Order, bytes: &[u8; 4096]) -> Heard {
     let command = order.command;
     let values = order.values;
     match command {
-        Command::Byte => after_step(reader.step(values.small(1), values.medium(2))),
+        Command::Byte => after_step(reader.step(values.small(0), values.medium(1))),
         Command::Close => after_step(reader.close()),
         Command::Write => Heard {
             reader,
-            said: written(header(values), first(bytes, values.count(7))),
+            said: written(header(values), first(bytes, values.count(6))),
         },
         Command::Bad => Heard {
             reader,
@@ -73,12 +73,12 @@ fn frame_length(content: usize) -> usize {
 // `write BYTE DEC DEC DEC DEC DEC HEX`
 fn header(values: Values) -> Header {
     Header {
-        message: values.small(1),
-        ack: values.small(2) == 1,
-        sender: values.small(3),
-        receiver: values.small(4),
-        source: Address(values.large(5)),
-        destination: Address(values.large(6)),
+        message: values.small(0),
+        ack: values.small(1) == 1,
+        sender: values.small(2),
+        receiver: values.small(3),
+        source: Address(values.large(4)),
+        destination: Address(values.large(5)),
     }
 }
 

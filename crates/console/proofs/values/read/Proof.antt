@@ -8,10 +8,10 @@ use Rattle.console.proofs.values.read.Statement.{statement}
 use Rattle.console.proofs.values.read.Tie as tie
 
 abbrev Inv-loop : tie.InvT-loop
-Inv-loop line words letters bytes₀ values₀ count i₀ bytes values i = (i ≤ count) × (length bytes ≡ length bytes₀)
+Inv-loop line letters bytes₀ values₀ count i₀ bytes values i = (i ≤ count) × (length bytes ≡ length bytes₀)
 
 abbrev μ-loop : tie.MeasureT-loop
-μ-loop line words letters bytes₀ values₀ count i₀ bytes values i = count - i
+μ-loop line letters bytes₀ values₀ count i₀ bytes values i = count - i
 
 pub read-spec : {M : Type 1} → statement M
 read-spec =
@@ -20,6 +20,9 @@ read-spec =
     Inv-loop
     μ-loop
     (λ c κs. search needs)
+    (λ c. search needs)
+    (λ c κs. search needs)
+    (λ c. search needs)
     (λ c. search needs)
     (λ c. search needs)
     (λ c. search needs)

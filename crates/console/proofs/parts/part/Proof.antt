@@ -1,18 +1,18 @@
--- The place is within the table.
+-- The place is within the text.
 -- Assumes nothing.
 use borrow.Author.Needs.{needs}
 use Prim.Native.Nat.{_≤_, _-_}
-use Rattle.console.proofs.tables.row_of.Statement.{statement}
-use Rattle.console.proofs.tables.row_of.Tie as tie
+use Rattle.console.proofs.parts.part.Statement.{statement}
+use Rattle.console.proofs.parts.part.Tie as tie
 
 abbrev Inv-loop : tie.InvT-loop
-Inv-loop table number row₀ start₀ i₀ i-end row start i = i ≤ i-end
+Inv-loop text separator number start₀ before₀ i₀ i-end start before i = i ≤ i-end
 
 abbrev μ-loop : tie.MeasureT-loop
-μ-loop table number row₀ start₀ i₀ i-end row start i = i-end - i
+μ-loop text separator number start₀ before₀ i₀ i-end start before i = i-end - i
 
-pub row-of-spec : {M : Type 1} → statement M
-row-of-spec =
+pub part-spec : {M : Type 1} → statement M
+part-spec =
     tie.close
     (tie.spec
     Inv-loop
@@ -25,6 +25,8 @@ row-of-spec =
     (λ c κs. search needs)
     (λ c. search needs)
     (λ c. search needs)
+    (λ c. search needs)
+    (λ c κs. search needs)
     (λ c. search needs)
     (λ c κs. search needs)
     (λ c. search needs))

@@ -1,19 +1,18 @@
--- The place is within the word.
+-- The total stays within 32 bits.
 -- Assumes nothing.
 use borrow.Author.Needs.{needs}
 use Prim.Native.Nat.{_≤_, _-_}
-use lib.ListN.{length}
-use Rattle.console.proofs.values.hexadecimal.Statement.{statement}
-use Rattle.console.proofs.values.hexadecimal.Tie as tie
+use Rattle.console.proofs.values.number.Statement.{statement}
+use Rattle.console.proofs.values.number.Tie as tie
 
 abbrev Inv-loop : tie.InvT-loop
-Inv-loop word digits total₀ i₀ total i = i ≤ length word
+Inv-loop word base most total₀ i₀ i-end total i = (i ≤ i-end) × (total ≤ 4294967295)
 
 abbrev μ-loop : tie.MeasureT-loop
-μ-loop word digits total₀ i₀ total i = length word - i
+μ-loop word base most total₀ i₀ i-end total i = i-end - i
 
-pub hexadecimal-spec : {M : Type 1} → statement M
-hexadecimal-spec =
+pub number-spec : {M : Type 1} → statement M
+number-spec =
     tie.close
     (tie.spec
     Inv-loop
@@ -23,6 +22,9 @@ hexadecimal-spec =
     (λ c. search needs)
     (λ c κs. search needs)
     (λ c. search needs)
+    (λ c κs. search needs)
+    (λ c. search needs)
+    (λ c κs. search needs)
     (λ c. search needs)
     (λ c. search needs)
     (λ c. search needs)

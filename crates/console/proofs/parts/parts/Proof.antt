@@ -1,0 +1,26 @@
+-- The place is within the text.
+-- Assumes nothing.
+use borrow.Author.Needs.{needs}
+use Prim.Native.Nat.{_≤_, _-_}
+use Rattle.console.proofs.parts.parts.Statement.{statement}
+use Rattle.console.proofs.parts.parts.Tie as tie
+
+abbrev Inv-loop : tie.InvT-loop
+Inv-loop text separator count₀ i₀ i-end count i = i ≤ i-end
+
+abbrev μ-loop : tie.MeasureT-loop
+μ-loop text separator count₀ i₀ i-end count i = i-end - i
+
+pub parts-spec : {M : Type 1} → statement M
+parts-spec =
+    tie.close
+    (tie.spec
+    Inv-loop
+    μ-loop
+    (λ c. search needs)
+    (λ c. search needs)
+    (λ c κs. search needs)
+    (λ c. search needs)
+    (λ c. search needs)
+    (λ c. search needs)
+    (λ c. search needs))
