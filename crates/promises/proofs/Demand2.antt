@@ -20,7 +20,7 @@ use Rattle.motors.proofs.FilingLaws as filing
 use Rattle.motors.proofs.StrikingLaws.{the-motor-struck-out-is-gone, every-other-motor-stays, one-place-is-given-back}
 use Rattle.motors.proofs.StrikingLaws as striking
 use Rattle.form.proofs.FormLaws.{a-register-written-and-read-again-is-the-same, a-form-read-and-written-again-is-the-same, an-accepted-form-gives-a-sound-register}
-use Rattle.promises.specs.Demand2.{Filed, StruckOut, Demand2}
+use Rattle.promises.specs.Demand2.{Frames, Board, Positions, Filed, StruckOut, Register, StoredForm, Demand2}
 use Rattle.promises.proofs.GroupTable.{group-table}
 use Rattle.promises.proofs.Events.{events}
 use Rattle.promises.proofs.Effects.{effects}
@@ -50,57 +50,65 @@ struck-out run count line node n e =
       its-place-is-given-back = omega (arith, one-place-is-given-back run count line node n e);
     }
 
-pub kept : Demand2
-kept =
+frames : Frames
+frames =
     record {
-      frames =
-          record {
-            frame-exactly-when-the-rules-hold = frame-exactly-when;
-            written-again-it-gives-its-own-bytes = written-of-read;
-            written-exactly-when-in-range = λ buffer. written-exactly-when (length buffer);
-            frame-written-is-read = read-of-written;
-            the-answer-is-the-place-after-the-frame = λ buffer. writable-is-written (length buffer);
-            no-byte-before-the-frame-is-changed = untouched-before;
-            no-byte-behind-the-frame-is-changed = untouched-behind;
-            the-buffer-keeps-its-length = length-kept;
-          };
-      board =
-          record {
-            sound-exactly-when-in-range = sound-exactly-when;
-            meant-is-carried-out-by-the-table = meant-is-carried-out;
-            not-meant-does-nothing = not-meant-is-silent;
-            board-once-sound-always-sound = λ n g b s. every-state-passes-row-33-again n g b s .still-sound;
-            a-reply-gets-no-reply = a-reply-message-is-never-answered;
-            all-that-is-sent-is-a-reply = every-message-sent-is-a-reply;
-            every-reply-is-a-frame-to-the-asker = every-reply-is-a-frame-to-the-asker;
-            group-table = group-table;
-            events = events;
-            what-a-message-does = effects;
-            one-IP = one-ip;
-            what-a-message-is-answered = answers;
-          };
-      positions =
-          record {
-            percent-is-the-nearest-whole = percent-nearest;
-            pulse-is-the-nearest-whole = pulse-nearest;
-            percent-to-pulse-and-back = there-and-back;
-          };
-      register =
-          record {
-            records-ascend-by-line-then-NodeID = each-record-is-before-the-later-ones;
-            every-record-held-is-in-range = λ run count s place h. in-range _ (each-record-is-right run count s place h);
-            filed-exactly-when-fileable = filed-exactly-when;
-            what-is-filed = filed;
-            struck-out-exactly-when-held = struck-exactly-when;
-            what-is-struck-out = struck-out;
-            the-count-is-the-records-held = the-count-is-the-number-of-records-held;
-            register-once-sound-always-sound = filing.a-sound-register-stays-sound;
-            struck-out-still-sound = striking.a-sound-register-stays-sound;
-          };
-      stored-form =
-          record {
-            form-written-is-read = a-register-written-and-read-again-is-the-same;
-            what-is-read-is-written = a-form-read-and-written-again-is-the-same;
-            what-is-read-is-sound = an-accepted-form-gives-a-sound-register;
-          };
+      frame-exactly-when-the-rules-hold = frame-exactly-when;
+      written-again-it-gives-its-own-bytes = written-of-read;
+      written-exactly-when-in-range = λ buffer. written-exactly-when (length buffer);
+      frame-written-is-read = read-of-written;
+      the-answer-is-the-place-after-the-frame = λ buffer. writable-is-written (length buffer);
+      no-byte-before-the-frame-is-changed = untouched-before;
+      no-byte-behind-the-frame-is-changed = untouched-behind;
+      the-buffer-keeps-its-length = length-kept;
     }
+
+board : Board
+board =
+    record {
+      sound-exactly-when-in-range = sound-exactly-when;
+      meant-is-carried-out-by-the-table = meant-is-carried-out;
+      not-meant-does-nothing = not-meant-is-silent;
+      board-once-sound-always-sound = λ n g b s. every-state-passes-row-33-again n g b s .still-sound;
+      a-reply-gets-no-reply = a-reply-message-is-never-answered;
+      all-that-is-sent-is-a-reply = every-message-sent-is-a-reply;
+      every-reply-is-a-frame-to-the-asker = every-reply-is-a-frame-to-the-asker;
+      group-table = group-table;
+      events = events;
+      what-a-message-does = effects;
+      one-IP = one-ip;
+      what-a-message-is-answered = answers;
+    }
+
+positions : Positions
+positions =
+    record {
+      percent-is-the-nearest-whole = percent-nearest;
+      pulse-is-the-nearest-whole = pulse-nearest;
+      percent-to-pulse-and-back = there-and-back;
+    }
+
+register : Register
+register =
+    record {
+      records-ascend-by-line-then-NodeID = each-record-is-before-the-later-ones;
+      every-record-held-is-in-range = λ run count s place h. in-range _ (each-record-is-right run count s place h);
+      filed-exactly-when-fileable = filed-exactly-when;
+      what-is-filed = filed;
+      struck-out-exactly-when-held = struck-exactly-when;
+      what-is-struck-out = struck-out;
+      the-count-is-the-records-held = the-count-is-the-number-of-records-held;
+      register-once-sound-always-sound = filing.a-sound-register-stays-sound;
+      struck-out-still-sound = striking.a-sound-register-stays-sound;
+    }
+
+stored-form : StoredForm
+stored-form =
+    record {
+      form-written-is-read = a-register-written-and-read-again-is-the-same;
+      what-is-read-is-written = a-form-read-and-written-again-is-the-same;
+      what-is-read-is-sound = an-accepted-form-gives-a-sound-register;
+    }
+
+pub kept : Demand2
+kept = record { frames = frames; board = board; positions = positions; register = register; stored-form = stored-form }
