@@ -18,11 +18,13 @@ use register_room::put_register;
 use wire_room::at_wire;
 use wire_room::put_wire;
 
-// Rows are written out once so many bytes of them have gathered, and before more is read; behind that the longest answer has room.
+// Rows are written out once so many bytes of them have gathered, and before more is read; behind that the longest
+// answer has room.
 const GATHERED: usize = 32768;
 
 // Each order goes to each room, and a room passes over what is not its own.
-// A loop has to end, and nothing says that the input does: the turns are counted down from a number that no run uses up.
+// A loop has to end, and nothing says that the input does: the turns are counted down from a number that no run uses
+// up.
 fn main() {
     let mut node = no_board();
     let mut groups = node::no_groups();

@@ -25,7 +25,9 @@ pub fn put_state(node: Node, groups: [[u8; 3]; 16], out: &mut [u8], at: usize) -
     put_row(
         out,
         at,
-        b"pulse # target ? direction $ source $ cause $ blocked # lock # @ $ saved # ips ? ? ? ? ? ? ? ? ? ? ? ? ? ? ? ? groups @ @ @ @ @ @ @ @ @ @ @ @ @ @ @ @",
+        b"pulse # target ? direction $ source $ cause $ blocked # lock # @ $ saved # \
+          ips ? ? ? ? ? ? ? ? ? ? ? ? ? ? ? ? \
+          groups @ @ @ @ @ @ @ @ @ @ @ @ @ @ @ @",
         &numbers,
         b"",
     )

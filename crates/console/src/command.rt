@@ -44,8 +44,21 @@ pub fn order_of(line: &[u8], length: usize, bytes: &mut [u8; 4096]) -> Order {
     if length > LONGEST {
         return none(Command::Bad);
     }
-    let table =
-        b"node ism;frame x;pulse m;blocked b;cleared ;power ;state ;line sx;strike si;motors ;store ;load x;byte bm;close ;write bfssllx";
+    let table = b"node ism;\
+        frame x;\
+        pulse m;\
+        blocked b;\
+        cleared ;\
+        power ;\
+        state ;\
+        line sx;\
+        strike si;\
+        motors ;\
+        store ;\
+        load x;\
+        byte bm;\
+        close ;\
+        write bfssllx";
     let number = row_named(table, part(line, b' ', 0));
     let row = part(table, b';', number);
     let values = read(line, part(row, b' ', 1), bytes);

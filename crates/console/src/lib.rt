@@ -1,4 +1,5 @@
-// The text side of a console: lines out of what is read, the command that a line is, the values of its words, and rows of text.
+// The text side of a console: lines out of what is read, the command that a line is, the values of its words, and
+// rows of text.
 mod command;
 mod lines;
 mod parts;

@@ -3,7 +3,8 @@ use crate::rows::first;
 use libc::STDIN_FILENO;
 ghost use Prim.Native.Nat.{_≤_};
 
-// What is read of the input: the chunk has so many bytes and is used up to a place, and so many bytes of the line are held.
+// What is read of the input: the chunk has so many bytes and is used up to a place, and so many bytes of the line
+// are held.
 pub struct Input {
     pub have: usize,
     pub next: usize,

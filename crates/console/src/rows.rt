@@ -1,4 +1,5 @@
-// Rows of text in a lent buffer: each function writes from a place on and answers the place after; what finds no room is left out.
+// Rows of text in a lent buffer: each function writes from a place on and answers the place after; what finds no room
+// is left out.
 use std::num::wrapping_add_usize;
 
 const DIGITS: [u8; 16] = [
@@ -41,8 +42,8 @@ fn put_text(out: &mut [u8], at: usize, text: &[u8]) -> usize {
 // A number that there is none of.
 pub const NONE: u32 = 0xFFFF_FFFF;
 
-// A pattern and the end of the row: `*` is the bytes in HEX, and each other mark the next number, `#` in decimal, `?` in decimal or `-` for none,
-// `$` as a byte, `@` as an address, six digits as on the label. All else stands for itself.
+// A pattern and the end of the row: `*` is the bytes in HEX, and each other mark the next number, `#` in decimal, `?` in
+// decimal or `-` for none, `$` as a byte, `@` as an address, six digits as on the label. All else stands for itself.
 pub fn put_row(out: &mut [u8], at: usize, pattern: &[u8], numbers: &[u32], bytes: &[u8]) -> usize {
     let mut place = at;
     let mut next = 0;

@@ -1,5 +1,6 @@
-// What the words of a line stand for, by a letter for each word behind the first: `f`, `s`, `m` and `l` are DEC up to 1, 255, 65,535 and
-// 4,294,967,295, `b` is BYTE, `i` is ID, and `x` is HEX, whose bytes go into a lent run and whose count is the value.
+// What the words of a line stand for, by a letter for each word behind the first: `f`, `s`, `m` and `l` are DEC up to 1,
+// 255, 65,535 and 4,294,967,295, `b` is BYTE, `i` is ID, and `x` is HEX, whose bytes go into a lent run and whose count is
+// the value.
 use crate::parts::between;
 use crate::parts::part;
 use crate::parts::parts;
