@@ -11,7 +11,8 @@ if_then_else_ false a b = b
 
 infixr 1 if_then_else_
 -- What holds of each way, when the test says that it is taken, holds of the choice.
-pub either : {A : Type 0} (P : A → Type 0) (t : Bool) {x y : A} → (t ≡ true → P x) → (t ≡ false → P y) → P (if t then x else y)
+pub either : {A : Type 0} (P : A → Type 0) (t : Bool) {x y : A} → (t ≡ true → P x) → (t ≡ false → P y)
+    → P (if t then x else y)
 either P true f g = f refl
 either P false f g = g refl
 

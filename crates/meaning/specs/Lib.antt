@@ -1,5 +1,9 @@
 pub mod Choice
 pub mod Chosen
+pub mod Cases
+pub mod Tests
+pub mod Tables
+pub mod Membership
 pub mod Bytes
 pub mod Lists
 pub mod Determined
