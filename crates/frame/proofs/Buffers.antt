@@ -1,26 +1,24 @@
 -- The writer writes exactly when all is in range; the buffer changes at the frame's own bytes alone; and what stands there is read back.
 -- Assumes nothing.
-use Prim.Native.Nat.{ℕ, _+_, _-_, _≤_, _<_}
+use Prim.Native.Nat.{ℕ, _+_, _≤_, _<_}
 use native.Mathlib.Omega.{arith}
 use mathlib.Core.Path.{_≡_, refl, _∙_, sym, ap}
-use mathlib.Core.Logic.{_↔_}
+use mathlib.Core.Logic.{_↔_, _⊎_, inl, inr, ⊎-elim}
 use mathlib.Core.List.{List, _++_}
-use borrow.Author.Tests.{ltb-false, eqb-false}
-use lib.Dec.{ltb, eqb}
 use lib.ListN.{length, take, drop}
 use lib.Seq.{take-at, drop-at, length-take-le, drop-drop}
 use Rattle.meaning.specs.Bytes.{Bytes}
-use Rattle.meaning.specs.Choice.{either}
+use Rattle.meaning.specs.Tables.{no-row-applies, passed-or-answered}
 use Rattle.refusal.specs.Number.{numberOf}
 use Rattle.refusal.specs.declared.Refusal.{Refusal}
 use Rattle.frame.specs.Layout.{headerOf, dataOf}
 use Rattle.frame.specs.Reading.{IsFrame, readingOf}
-use Rattle.frame.specs.Writing.{writingOf, Writable, refusedBy, bufferAfter, over, frameOf}
+use Rattle.frame.specs.Writing.{writerTable, writingOf, Writable, refusedBy, bufferAfter, over, frameOf}
 use Rattle.frame.specs.declared.header.Header.{Header}
 use Rattle.frame.specs.declared.reading.Reading.the-variants.{Frame}
 use Rattle.frame.specs.declared.writing.Writing.{Writing}
 use Rattle.frame.specs.declared.writing.Writing.the-variants.{Next, Refused}
-use Rattle.frame.proofs.WriterRows.{accepted, told}
+use Rattle.frame.proofs.Rows.{told}
 use Rattle.frame.proofs.Content.{length-data}
 use Rattle.frame.proofs.Frames.{frame-is-read}
 use Rattle.frame.proofs.Over.{length-over-at}
@@ -28,51 +26,27 @@ use Rattle.frame.proofs.ReadBack.{length-frame, written-is-a-frame, hea
 use Rattle.frame.proofs.WrittenAgain.{written-again}
 
 module _ (room place : ℕ) (h : Header) (d : List ℕ) where
-  -- An answer is the place after the frame, or a refusal with one of the writer's numbers.
-  data Answered : Writing → Type 0 where
-    as-written : Writable room place h d → Answered (Next (place + (11 + length d)))
-    as-refused : (r : Refusal) → 10 ≤ numberOf r → numberOf r ≤ 14 → Answered (Refused r)
-
-  answered : Answered (writingOf room place h d)
-  unfolding writingOf
-  answered =
-      either Answered (ltb 0xFFFFFF (h .source .0)) (λ t. as-refused Refusal.AddressTooLarge (omega arith) (omega arith)) λ source.
-      either Answered (ltb 0xFFFFFF (h .destination .0)) (λ t. as-refused Refusal.AddressTooLarge (omega arith) (omega arith)) λ destination.
-      either Answered (ltb 15 (h .sender)) (λ t. as-refused Refusal.TypeTooLarge (omega arith) (omega arith)) λ sender.
-      either Answered (ltb 15 (h .receiver)) (λ t. as-refused Refusal.TypeTooLarge (omega arith) (omega arith)) λ receiver.
-      either Answered (ltb 20 (length d)) (λ t. as-refused Refusal.TooMuchData (omega arith) (omega arith)) λ amount.
-      either Answered (eqb (h .message) 255) (λ t. as-refused Refusal.ReservedToWrite (omega arith) (omega arith)) λ message.
-      either Answered (ltb room place) (λ t. as-refused Refusal.NoRoom (omega arith) (omega arith)) λ start.
-      either Answered (ltb (room - place) (11 + length d)) (λ t. as-refused Refusal.NoRoom (omega arith) (omega arith)) λ space.
-      as-written
-      (record {
-        source-is-an-address = ltb-false 0xFFFFFF (h .source .0) source;
-        destination-is-an-address = ltb-false 0xFFFFFF (h .destination .0) destination;
-        sender-is-a-type = ltb-false 15 (h .sender) sender;
-        receiver-is-a-type = ltb-false 15 (h .receiver) receiver;
-        to-20-bytes = ltb-false 20 (length d) amount;
-        has-a-message = eqb-false (h .message) 255 message;
-        has-room = omega (arith, ltb-false room place start, ltb-false (room - place) (11 + length d) space);
-      })
-
   pub writable-is-written : Writable room place h d → writingOf room place h d ≡ Next (place + (11 + length d))
-  writable-is-written w =
-      accepted room place h d (w .source-is-an-address) (w .destination-is-an-address) (w .sender-is-a-type) (w .receiver-is-a-type)
-      (w .to-20-bytes) (w .has-a-message) (w .has-room)
+  unfolding writingOf
+  writable-is-written w = no-row-applies (writerTable room place h d) (Next (place + (11 + length d))) (search arith)
 
-  only-writable : (a : Writing) → Answered a → refusedBy a ≡ 0 → Writable room place h d
-  only-writable a (as-written w) e = w
-  only-writable a (as-refused q l u) e = absurd (omega arith)
+  -- Each row of the table has one of the writer's numbers, and where none applies all is in range.
+  by-number : Writable room place h d ⊎ ((10 ≤ refusedBy (writingOf room place h d)) × (refusedBy (writingOf room place h d) ≤ 14))
+  unfolding writingOf
+  by-number =
+      ⊎-elim (λ facts. inl (search arith)) inr
+      (passed-or-answered (λ (a : Writing). (10 ≤ refusedBy a) × (refusedBy a ≤ 14)) (writerTable room place h d) (Next (place + (11 + length d))) (search arith))
 
   pub written-exactly-when : Writable room place h d ↔ (refusedBy (writingOf room place h d) ≡ 0)
-  written-exactly-when = (λ w. ap refusedBy (writable-is-written w), only-writable (writingOf room place h d) answered)
+  written-exactly-when = (λ w. ap refusedBy (writable-is-written w), λ e. ⊎-elim (λ w. w) (λ l. absurd (omega arith)) by-number)
 
-  numbered : (a : Writing) → Answered a → ¬ Writable room place h d → (q : Refusal) × (a ≡ Refused q) × (10 ≤ numberOf q) × (numberOf q ≤ 14)
-  numbered a (as-written w) n = absurd (n w)
-  numbered a (as-refused q l u) n = (q, refl, l, u)
+  numbered : (a : Writing) → (10 ≤ refusedBy a) × (refusedBy a ≤ 14) → (q : Refusal) × (a ≡ Refused q) × (10 ≤ numberOf q) × (numberOf q ≤ 14)
+  numbered (Next n) l = absurd (omega arith)
+  numbered (Refused q) l = (q, refl, l .0, l .1)
 
-  pub not-written-otherwise : ¬ Writable room place h d → (q : Refusal) × (writingOf room place h d ≡ Refused q) × (10 ≤ numberOf q) × (numberOf q ≤ 14)
-  not-written-otherwise = numbered (writingOf room place h d) answered
+  pub not-written-otherwise : ¬ Writable room place h d
+      → (q : Refusal) × (writingOf room place h d ≡ Refused q) × (10 ≤ numberOf q) × (numberOf q ≤ 14)
+  not-written-otherwise n = ⊎-elim (λ w. absurd (n w)) (numbered (writingOf room place h d)) by-number
 
 -- A refusal changes no byte of the buffer.
 pub refused-writes-nothing : (buffer : List ℕ) (place : ℕ) (h : Header) (d : List ℕ) (q : Refusal) → writingOf (length buffer) place h d ≡ Refused q

@@ -11,6 +11,10 @@ use Rattle.frame.proofs.address.Address.is_group.Kinds as is-group-kind
 use Rattle.frame.proofs.address.Address.is_group.Reads as is-group
 use Rattle.frame.proofs.address.Address.is_broadcast.Kinds as is-broadcast-kinds
 use Rattle.frame.proofs.address.Address.is_broadcast.Reads as is-broadcast
+use Rattle.frame.proofs.address.Address.is_node_id.Kinds as is-node-id-kinds
+use Rattle.frame.proofs.address.Address.is_node_id.Reads as is-node-id
+use Rattle.frame.proofs.words.word.Kinds as word-kinds
+use Rattle.frame.proofs.words.word.Reads as word
 use Rattle.frame.proofs.reading.read.Kinds as read-kinds
 use Rattle.frame.proofs.reading.read.Reads as read
 use Rattle.frame.proofs.reading.data_count.Kinds as data-count-kinds
@@ -25,6 +29,8 @@ pub record Determined : Type 0 where
   pub to-bytes-once : Once to-bytes-kinds.ps to-bytes-kinds.r to-bytes.Post
   pub is-group-once : Once is-group-kinds.ps is-group-kinds.r is-group.Post
   pub is-broadcast-once : Once is-broadcast-kinds.ps is-broadcast-kinds.r is-broadcast.Post
+  pub is-node-id-once : Once is-node-id-kinds.ps is-node-id-kinds.r is-node-id.Post
+  pub word-once : Once word-kinds.ps word-kinds.r word.Post
   pub read-once : Once read-kinds.ps read-kinds.r read.Post
   pub data-count-once : Once data-count-kinds.ps data-count-kinds.r data-count.Post
   pub data-byte-once : Once data-byte-kinds.ps data-byte-kinds.r data-byte.Post
@@ -37,6 +43,8 @@ determined =
       to-bytes-once = λ κs a x y s t p q. p ∙ sym q;
       is-group-once = λ κs a x y s t p q. p ∙ sym q;
       is-broadcast-once = λ κs a x y s t p q. p ∙ sym q;
+      is-node-id-once = λ κs a x y s t p q. p ∙ sym q;
+      word-once = λ κs a x y s t p q. p ∙ sym q;
       read-once = λ κs a x y s t p q. p ∙ sym q;
       data-count-once = λ κs a x y s t p q. p ∙ sym q;
       data-byte-once = λ κs a x y s t p q. p ∙ sym q;

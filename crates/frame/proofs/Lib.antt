@@ -2,7 +2,6 @@ pub mod Sums
 pub mod Rows
 pub mod Content
 pub mod Over
-pub mod WriterRows
 pub mod Frames
 pub mod Addresses
 pub mod ReadBack

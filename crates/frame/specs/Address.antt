@@ -2,6 +2,7 @@
 -- Assumes nothing.
 use Prim.Native.Nat.{ℕ, _+_, _*_, _/_, _%_}
 use mathlib.Core.List.{List, [], _∷_}
+use Rattle.meaning.specs.Tests.{Test, _at-least_, _at-most_, _and_}
 use Rattle.frame.specs.declared.address.Address.{Address}
 
 abbrev pub address : ℕ → Address
@@ -20,3 +21,7 @@ addressOf low middle high = address (low + 256 * middle + 65536 * high)
 
 abbrev pub bytesOf : Address → List ℕ
 bytesOf a = a .0 % 256 ∷ a .0 / 256 % 256 ∷ a .0 / 65536 % 256 ∷ []
+
+-- A NodeID: 000001h to FFFEFFh (rows 21 and 32).
+abbrev pub aNodeID : Address → Test
+aNodeID a = a .0 at-least 0x000001 and a .0 at-most 0xFFFEFF

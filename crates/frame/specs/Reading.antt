@@ -3,27 +3,30 @@
 use Prim.Native.Nat.{ℕ, _≤_}
 use mathlib.Core.Path.{_≡_}
 use mathlib.Core.Logic.{_≢_}
-use mathlib.Core.Bool.{not}
-use mathlib.Core.List.{List}
-use lib.Dec.{leb, eqb}
+use mathlib.Core.List.{List, [], _∷_}
 use lib.ListN.{length}
-use Rattle.meaning.specs.Choice.{if_then_else_}
+use Rattle.meaning.specs.Tests.{_at-most_, _at-least_, _is_, _is-not_}
+use Rattle.meaning.specs.Tables.{Row, _when_, decide}
 use Rattle.refusal.specs.Number.{numberOf}
 use Rattle.refusal.specs.declared.Refusal.{Refusal}
 use Rattle.frame.specs.Layout.{message, ext, len, summed, stated, headerOf, dataCount}
 use Rattle.frame.specs.declared.reading.Reading.{Reading}
 use Rattle.frame.specs.declared.reading.Reading.the-variants.{Frame, Refused}
 
--- Why a bundle is no frame, the first reason that applies, or the frame that it is.
+-- Why a bundle is no frame: rows 1 to 6.
+abbrev pub bundleTable : List ℕ → List (Row Reading)
+bundleTable b =
+    Refused Refusal.TooShort when length b at-most 10
+    ∷ Refused Refusal.TooLong when length b at-least 32
+    ∷ Refused Refusal.Extended when ext b is-not 0
+    ∷ Refused Refusal.WrongLength when len b is-not length b
+    ∷ Refused Refusal.WrongChecksum when summed b is-not stated b
+    ∷ Refused Refusal.ReservedMessage when message b is 255
+    ∷ []
+
+-- The first reason that applies, or the frame that it is.
 unfoldable pub readingOf : List ℕ → Reading
-readingOf b =
-    if leb (length b) 10 then Refused Refusal.TooShort else
-    if leb 32 (length b) then Refused Refusal.TooLong else
-    if not (eqb (ext b) 0) then Refused Refusal.Extended else
-    if not (eqb (len b) (length b)) then Refused Refusal.WrongLength else
-    if not (eqb (summed b) (stated b)) then Refused Refusal.WrongChecksum else
-    if eqb (message b) 255 then Refused Refusal.ReservedMessage else
-    Frame (headerOf b) (dataCount b)
+readingOf b = decide (bundleTable b) (Frame (headerOf b) (dataCount b))
 
 -- The SDN rules of a frame.
 pub record IsFrame (b : List ℕ) : Type 0 where

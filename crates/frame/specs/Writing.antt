@@ -4,9 +4,10 @@ use Prim.Native.Nat.{ℕ, _+_, _-_, _*_, _/_, _%_, _≤_}
 use mathlib.Core.Logic.{_≢_}
 use mathlib.Core.Bool.{Bool}
 use mathlib.Core.List.{List, [], _∷_, _++_, map}
-use lib.Dec.{ltb, eqb}
 use lib.ListN.{length, take, drop}
 use Rattle.meaning.specs.Choice.{if_then_else_}
+use Rattle.meaning.specs.Tests.{_below_, _above_, _is_, _or_}
+use Rattle.meaning.specs.Tables.{Row, _when_, decide}
 use Rattle.refusal.specs.Number.{numberOf}
 use Rattle.refusal.specs.declared.Refusal.{Refusal}
 use Rattle.frame.specs.Address.{bytesOf}
@@ -34,18 +35,19 @@ wireOf raw = sealed (map inverted raw)
 abbrev pub frameOf : Header → List ℕ → List ℕ
 frameOf h d = wireOf (rawHeader h (length d) ++ d)
 
--- Why a frame is not written, the first reason that applies, or the place after it.
+-- Why a frame is not written: rows 10 to 14.
+abbrev pub writerTable : (room place : ℕ) → Header → List ℕ → List (Row Writing)
+writerTable room place h d =
+    Refused Refusal.AddressTooLarge when h .source .0 above 0xFFFFFF or h .destination .0 above 0xFFFFFF
+    ∷ Refused Refusal.TypeTooLarge when h .sender above 15 or h .receiver above 15
+    ∷ Refused Refusal.TooMuchData when length d above 20
+    ∷ Refused Refusal.ReservedToWrite when h .message is 255
+    ∷ Refused Refusal.NoRoom when room below place or (room - place) below (11 + length d)
+    ∷ []
+
+-- The first reason that applies, or the place after the frame.
 unfoldable pub writingOf : (room place : ℕ) → Header → List ℕ → Writing
-writingOf room place h d =
-    if ltb 0xFFFFFF (h .source .0) then Refused Refusal.AddressTooLarge else
-    if ltb 0xFFFFFF (h .destination .0) then Refused Refusal.AddressTooLarge else
-    if ltb 15 (h .sender) then Refused Refusal.TypeTooLarge else
-    if ltb 15 (h .receiver) then Refused Refusal.TypeTooLarge else
-    if ltb 20 (length d) then Refused Refusal.TooMuchData else
-    if eqb (h .message) 255 then Refused Refusal.ReservedToWrite else
-    if ltb room place then Refused Refusal.NoRoom else
-    if ltb (room - place) (11 + length d) then Refused Refusal.NoRoom else
-    Next (place + (11 + length d))
+writingOf room place h d = decide (writerTable room place h d) (Next (place + (11 + length d)))
 
 -- What the writer asks, as facts.
 pub record Writable (room place : ℕ) (h : Header) (d : List ℕ) : Type 0 where

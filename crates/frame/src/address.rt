@@ -1,7 +1,7 @@
 // An address: one kind of thing, with its group and its broadcast mark.
 ghost use mathlib.Core.Path.{_≡_};
 ghost use lib.Dec.{eqb};
-ghost use Rattle.frame.specs.Address.{addressOf, bytesOf, group, broadcast};
+ghost use Rattle.frame.specs.Address.{addressOf, bytesOf, group, broadcast, aNodeID};
 
 pub struct Address(pub u32);
 
@@ -28,6 +28,16 @@ impl Address {
         let middle = (number / 256 % 256) as u8;
         let high = (number / 65536 % 256) as u8;
         [low, middle, high]
+    }
+
+    // The address of one motor or board: 000001h to FFFEFFh.
+    pub fn is_node_id(self) -> bool
+        ensures { λ r. ⌜ r ≡ aNodeID self .holds ⌝ }
+    {
+        if self.0 < 1 {
+            return false;
+        }
+        self.0 <= 0xFF_FEFF
     }
 
     pub fn is_group(self) -> bool

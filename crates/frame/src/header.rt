@@ -1,6 +1,13 @@
 // What a frame says beside its DATA.
 use crate::address::Address;
 
+// The bytes of a frame beside its DATA, the most DATA, and the longest frame.
+pub(crate) const BESIDE_DATA: usize = 11;
+
+pub(crate) const MOST_DATA: usize = 20;
+
+pub(crate) const LONGEST: usize = 31;
+
 pub struct Header {
     // MSG.
     pub message: u8,

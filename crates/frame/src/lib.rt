@@ -3,6 +3,7 @@ mod address;
 mod header;
 mod reading;
 mod sum;
+mod words;
 mod writing;
 
 pub use address::Address;
@@ -11,5 +12,6 @@ pub use reading::Reading;
 pub use reading::data_byte;
 pub use reading::data_count;
 pub use reading::read;
+pub use words::word;
 pub use writing::Writing;
 pub use writing::write;

@@ -1,6 +1,8 @@
 // Reading one bundle: the frame that it is, or why it is none.
 use crate::address::Address;
+use crate::header::BESIDE_DATA;
 use crate::header::Header;
+use crate::header::LONGEST;
 use crate::sum::sum;
 use refusal::Refusal;
 ghost use mathlib.Core.Path.{_≡_};
@@ -20,10 +22,10 @@ pub fn read(bundle: &[u8]) -> Reading
     ensures { λ r. ⌜ r ≡ readingOf (now (bundle .entry)) ⌝ }
 {
     let count = bundle.len();
-    if count <= 10 {
+    if count < BESIDE_DATA {
         return Reading::Refused(Refusal::TooShort);
     }
-    if count >= 32 {
+    if count > LONGEST {
         return Reading::Refused(Refusal::TooLong);
     }
     let length = !bundle[1];
@@ -40,17 +42,17 @@ pub fn read(bundle: &[u8]) -> Reading
     if !bundle[0] == 255 {
         return Reading::Refused(Refusal::ReservedMessage);
     }
-    Reading::Frame(header(bundle), count - 11)
+    Reading::Frame(header(bundle), count - BESIDE_DATA)
 }
 
 // How many bytes of DATA a bundle has room for between its header and its checksum.
 pub fn data_count(bundle: &[u8]) -> usize
     ensures { λ r. ⌜ r ≡ dataCount (now (bundle .entry)) ⌝ }
 {
-    if bundle.len() < 11 {
+    if bundle.len() < BESIDE_DATA {
         return 0;
     }
-    bundle.len() - 11
+    bundle.len() - BESIDE_DATA
 }
 
 // A byte of a bundle's DATA, counted from 0; 0 past its end.

@@ -1,5 +1,7 @@
 // Writing a frame into a lent buffer, at any place.
+use crate::header::BESIDE_DATA;
 use crate::header::Header;
+use crate::header::MOST_DATA;
 use crate::sum::sum;
 use refusal::Refusal;
 ghost use mathlib.Core.Path.{_≡_};
@@ -35,7 +37,7 @@ pub fn write(buffer: &mut [u8], place: usize, header: Header, content: &[u8]) ->
         return Writing::Refused(Refusal::TypeTooLarge);
     }
     let count = content.len();
-    if count > 20 {
+    if count > MOST_DATA {
         return Writing::Refused(Refusal::TooMuchData);
     }
     if header.message == 255 {
@@ -44,11 +46,11 @@ pub fn write(buffer: &mut [u8], place: usize, header: Header, content: &[u8]) ->
     if place > buffer.len() {
         return Writing::Refused(Refusal::NoRoom);
     }
-    if buffer.len() - place < 11 + count {
+    if buffer.len() - place < BESIDE_DATA + count {
         return Writing::Refused(Refusal::NoRoom);
     }
     lay(&mut buffer[place..], header, content);
-    Writing::Next(place + (11 + count))
+    Writing::Next(place + (BESIDE_DATA + count))
 }
 
 // The frame over the first bytes of a part that has room for it.

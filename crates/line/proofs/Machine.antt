@@ -14,7 +14,7 @@ use Rattle.meaning.specs.Choice.{if_then_else_}
 use Rattle.frame.specs.Layout.{headerOf, dataCount}
 use Rattle.frame.specs.Reading.{IsFrame, readingOf}
 use Rattle.frame.proofs.Frames.{Numbered, frame-or-refused, frame-is-read}
-use Rattle.frame.proofs.Rows.{row-2}
+use Rattle.frame.proofs.Rows.{read-by}
 use Rattle.line.specs.Reader.{isSound, reader, fresh, begun, joined, endedWith, answeredBy, stepOf, closeOf, allZeros}
 use Rattle.line.specs.Telling.{Entry, after, Told, frame, said, wholly}
 use Rattle.line.specs.Bundles.{ends, join, bundles, bundleTold}
@@ -108,7 +108,7 @@ ended-is (c ∷ b) next = go (ltb 31 (min (length (c ∷ b)) 32)) refl
     go : (t : Bool) → ltb 31 (min (length (c ∷ b)) 32) ≡ t → said (endedWith (holds (c ∷ b)) next) ≡ bundleTold (c ∷ b) ∷ []
     go true t =
         let h : 31 < min (length (c ∷ b)) 32 = ltb-true 31 (min (length (c ∷ b)) 32) t in
-        rw (ended-too-long (holds (c ∷ b)) next some h, row-2 (c ∷ b) (omega arith) (omega arith))
+        rw (ended-too-long (holds (c ∷ b)) next some h, ← read-by (c ∷ b) 1 (omega arith, omega arith))
     go false t =
         let h : min (length (c ∷ b)) 32 ≤ 31 = ltb-false 31 (min (length (c ∷ b)) 32) t in
         let m : min (length (c ∷ b)) 32 ≡ length (c ∷ b) = omega arith in

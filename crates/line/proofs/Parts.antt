@@ -30,7 +30,8 @@ pub steps-and-close : (r : Reader) (es : List Entry) → wholly r es ≡ telling
 steps-and-close r es = rw append-nil at (wholly-continued r es [])
 
 -- Whatever the reader has heard: at a silence of 30 or more it tells of what was open as a close would, and of what follows as a fresh reader.
-pub recovers : (r : Reader) → Sound r → (s b : ℕ) (fs : List Entry) → 30 ≤ s → wholly r (after s b ∷ fs) ≡ said (closeOf r) ++ wholly fresh (after s b ∷ fs)
+pub recovers : (r : Reader) → Sound r → (s b : ℕ) (fs : List Entry) → 30 ≤ s
+    → wholly r (after s b ∷ fs) ≡ said (closeOf r) ++ wholly fresh (after s b ∷ fs)
 recovers r o s b fs h =
     rw (
       step-ends r b s (is-sound r o) h,

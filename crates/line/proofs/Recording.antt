@@ -13,7 +13,36 @@ use Rattle.frame.specs.Reading.{IsFrame}
 use Rattle.frame.proofs.Frames.{frame-is-read, refused-otherwise}
 use Rattle.line.specs.Telling.{Entry, Told, frame, refused}
 use Rattle.line.specs.Bundles.{ends, join, bundles, bundleTold}
-use Rattle.line.specs.Damage.{Sent, whole, harmed, heard, unharmed, Pieces, none, empty, begin, Rest, over, within, handed, Number, Numbered, Owed, nothing, itself, once, twice, Fault, change, lose, insert, pause, lose-pause, Befalls, pieces}
+use Rattle.line.specs.Damage.{
+  Sent,
+  whole,
+  harmed,
+  heard,
+  unharmed,
+  Pieces,
+  none,
+  empty,
+  begin,
+  Rest,
+  over,
+  within,
+  handed,
+  Number,
+  Numbered,
+  Owed,
+  nothing,
+  itself,
+  once,
+  twice,
+  Fault,
+  change,
+  lose,
+  insert,
+  pause,
+  lose-pause,
+  Befalls,
+  pieces,
+}
 use Rattle.line.proofs.Single.{all-refused}
 
 -- the pieces that are heard: an empty one is not

@@ -20,7 +20,7 @@ use Rattle.line.specs.declared.reader.Stepped.{Stepped}
 use Rattle.line.specs.declared.reader.Ran.{Ran}
 use Rattle.line.specs.declared.reader.Answer.{Answer}
 use Rattle.line.specs.declared.reader.Answer.the-variants.{Nothing, Frame, Refused}
-use Rattle.line.specs.Telling.{entries, toldBy, said, telling, readerAfter}
+use Rattle.line.specs.Telling.{entries, toldBy, said, telling, readerAfter, Steps}
 use Rattle.line.proofs.Joining.{joined-open, stays-open}
 use Rattle.line.proofs.Sound.{Sound, goes-on, sound-joined}
 use Rattle.line.proofs.Steps.{ended-too-long, ended-read}
@@ -61,7 +61,8 @@ module _ (bytes silences : List ℕ) (alike : length bytes ≡ length silences) 
   joins r i s h w = one-more r bytes silences i (joined r (getD bytes i 0)) h alike (goes-on r (getD bytes i 0) (getD silences i 0) s w)
 
   pub all-join : (n : ℕ) (r : Reader) (i : ℕ) → Sound r → i + n ≤ length bytes → ((k : ℕ) → i ≤ k → k < i + n → getD silences k 0 < 30)
-      → runOf r (drop i bytes) (drop i silences) i ≡ runOf (foldl joined r (take n (drop i bytes))) (drop (i + n) bytes) (drop (i + n) silences) (i + n)
+      → runOf r (drop i bytes) (drop i silences) i
+      ≡ runOf (foldl joined r (take n (drop i bytes))) (drop (i + n) bytes) (drop (i + n) silences) (i + n)
   all-join zero r i s h q = let e : i + 0 ≡ i = omega arith in rw e
   all-join (suc n) r i s h q =
       let byte = getD bytes i 0 in
@@ -103,18 +104,8 @@ silent Nothing bundle e = refl
 silent (Frame h n) bundle e = absurd (false-is-not-true e)
 silent (Refused q) bundle e = absurd (false-is-not-true e)
 
--- A run reads some entries, no more than there are: it tells what single steps tell of them, leaves the reader that they leave, and before
--- the last of them nothing is told; it stops early only to tell something.
-pub record Steps (r : Reader) (bytes silences : List ℕ) (place : ℕ) (x : Ran) : Type 0 where
-  pub read : ℕ
-  pub to-place : x .place ≡ place + read
-  pub within : read ≤ length bytes
-  pub tells : telling r (entries (take read bytes) (take read silences)) ≡ said (x .stepped)
-  pub leaves : readerAfter r (entries (take read bytes) (take read silences)) ≡ x .stepped .reader
-  pub not-before : (k : ℕ) → k < read → telling r (entries (take k bytes) (take k silences)) ≡ []
-  pub stops : goesOn (x .stepped .answer) ≡ true → read ≡ length bytes
-
-pub run-is-steps : (r : Reader) (bytes silences : List ℕ) (place : ℕ) → length bytes ≡ length silences → Steps r bytes silences place (runOf r bytes silences place)
+pub run-is-steps : (r : Reader) (bytes silences : List ℕ) (place : ℕ) → length bytes ≡ length silences
+    → Steps r bytes silences place (runOf r bytes silences place)
 unfolding runOf
 run-is-steps r [] silences place n =
     record { read = 0; to-place = omega arith; within = omega arith; tells = refl; leaves = refl; not-before = λ k h. absurd (omega arith); stops = λ e. refl }

@@ -70,7 +70,8 @@ first-joins r byte s e =
     let z : r .kept ≡ noBytes = zeros-are (r .kept) (rw e at (s .zeros)) ∙ rw (s .kept-31) in
     rw (e, z)
 
-pub goes-on : (r : Reader) (byte silence : ℕ) → Sound r → (r .count ≡ 0) ⊎ (silence < 30) → stepOf r byte silence ≡ stepped (joined r byte) Nothing noBytes
+pub goes-on : (r : Reader) (byte silence : ℕ) → Sound r → (r .count ≡ 0) ⊎ (silence < 30)
+    → stepOf r byte silence ≡ stepped (joined r byte) Nothing noBytes
 goes-on r byte silence s (inr h) = step-joins r byte silence (is-sound r s) h
 goes-on r byte silence s (inl e) = go (leb 30 silence) refl
   where

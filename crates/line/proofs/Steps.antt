@@ -14,7 +14,22 @@ use Rattle.frame.specs.Reading.{readingOf}
 use Rattle.frame.specs.declared.reading.Reading.{Reading}
 use Rattle.line.specs.Telling.{said}
 use Rattle.line.specs.declared.reader.Stepped.{Stepped}
-use Rattle.line.specs.Reader.{isSound, endedWith, answeredBy, broken, begun, joined, fresh, stepped, stepOf, closeOf, refusing, runOf, ranOf, noBytes}
+use Rattle.line.specs.Reader.{
+  isSound,
+  endedWith,
+  answeredBy,
+  broken,
+  begun,
+  joined,
+  fresh,
+  stepped,
+  stepOf,
+  closeOf,
+  refusing,
+  runOf,
+  ranOf,
+  noBytes,
+}
 use Rattle.line.specs.declared.reader.Reader.{Reader}
 use Rattle.line.specs.declared.reader.Answer.{Answer}
 use Rattle.line.specs.declared.reader.Answer.the-variants.{Nothing, Frame, Refused}
@@ -123,7 +138,8 @@ module _ (r : Reader) (bytes silences : List ℕ) (place : ℕ) where
   unfolding ranOf
   run-unequal e n = rw (e, ne-eqb (length bytes) (length silences) n)
 
-  pub run-past-end : isSound r ≡ true → length bytes ≡ length silences → length bytes < place → ranOf r bytes silences place ≡ refusing r Refusal.PlacePastEnd place
+  pub run-past-end : isSound r ≡ true → length bytes ≡ length silences → length bytes < place
+      → ranOf r bytes silences place ≡ refusing r Refusal.PlacePastEnd place
   unfolding ranOf
   run-past-end e n h = rw (e, eq-eqb (length bytes) (length silences) n, lt-ltb (length bytes) place h)
 

@@ -9,7 +9,8 @@ use Rattle.frame.specs.Reading.{IsFrame}
 use Rattle.line.specs.Reader.{endingSilence}
 use Rattle.line.specs.Telling.{Entry, after, Told, frame, refused}
 
--- What can befall a frame, at the byte of index i: it is changed, lost, another is put in before it, a silence is put in before it,
+-- What can befall a frame, at the byte of index i: it is changed, lost, another is put in before it, a silence is put
+-- in before it,
 -- or it is lost with a silence in its place.
 pub data Fault : Type 0 where
   change : (i v : ℕ) → Fault
@@ -18,7 +19,8 @@ pub data Fault : Type 0 where
   pause : (i : ℕ) → Fault
   lose-pause : (i : ℕ) → Fault
 
--- The pieces, divided by silences of 30 or more, that are heard of a frame that suffered the fault. An empty piece is not heard.
+-- The pieces, divided by silences of 30 or more, that are heard of a frame that suffered the fault. An empty piece is
+-- not heard.
 abbrev pub pieces : Fault → List ℕ → List (List ℕ)
 pieces (change i v) w = set w i v ∷ []
 pieces (lose i) w = (take i w ++ drop (suc i) w) ∷ []
@@ -56,11 +58,13 @@ mutual
   pub data Pieces : ℕ → List (List ℕ) → List Entry → Type 0 where
     none : {m : ℕ} → Pieces m [] []
     empty : {m : ℕ} {ps : List (List ℕ)} {es : List Entry} → Pieces m ps es → Pieces m ([] ∷ ps) es
-    begin : {m s b : ℕ} {p : List ℕ} {ps : List (List ℕ)} {es : List Entry} → m ≤ s → Rest p ps es → Pieces m ((b ∷ p) ∷ ps) (after s b ∷ es)
+    begin : {m s b : ℕ} {p : List ℕ} {ps : List (List ℕ)} {es : List Entry} → m ≤ s → Rest p ps es
+        → Pieces m ((b ∷ p) ∷ ps) (after s b ∷ es)
 
   pub data Rest : List ℕ → List (List ℕ) → List Entry → Type 0 where
     over : {ps : List (List ℕ)} {es : List Entry} → Pieces endingSilence ps es → Rest [] ps es
-    within : {s b : ℕ} {p : List ℕ} {ps : List (List ℕ)} {es : List Entry} → s < endingSilence → Rest p ps es → Rest (b ∷ p) ps (after s b ∷ es)
+    within : {s b : ℕ} {p : List ℕ} {ps : List (List ℕ)} {es : List Entry} → s < endingSilence → Rest p ps es
+        → Rest (b ∷ p) ps (after s b ∷ es)
 
 -- A recording of these frames: the silences between frames stay, and the one before the first byte of all is any.
 abbrev pub Recording : List Sent → List Entry → Type 0
@@ -82,10 +86,12 @@ Numbered [] = Unit {0}
 Numbered (frame h b ∷ xs) = Numbered xs
 Numbered (refused k ∷ xs) = Number k × Numbered xs
 
--- What the reader owes of the frames, in their order: an unharmed one gives itself, a harmed one gives one refusal or two.
+-- What the reader owes of the frames, in their order: an unharmed one gives itself, a harmed one gives one refusal or
+-- two.
 pub data Owed : List Sent → List Told → Type 0 where
   nothing : Owed [] []
-  itself : {w : List ℕ} {e : IsFrame w} {ss : List Sent} {xs : List Told} → Owed ss xs → Owed (whole w e ∷ ss) (frame (headerOf w) w ∷ xs)
+  itself : {w : List ℕ} {e : IsFrame w} {ss : List Sent} {xs : List Told} → Owed ss xs
+      → Owed (whole w e ∷ ss) (frame (headerOf w) w ∷ xs)
   once : {w : List ℕ} {e : IsFrame w} {f : Fault} {h : Befalls f w} {k : ℕ} {ss : List Sent} {xs : List Told}
       → Number k → Owed ss xs → Owed (harmed w e f h ∷ ss) (refused k ∷ xs)
   twice : {w : List ℕ} {e : IsFrame w} {f : Fault} {h : Befalls f w} {k j : ℕ} {ss : List Sent} {xs : List Told}

@@ -7,7 +7,39 @@ use lib.Dec.{eqb}
 use Rattle.meaning.specs.Choice.{if_then_else_}
 use Rattle.refusal.specs.Number.{numberOf}
 use Rattle.refusal.specs.declared.Refusal.{Refusal}
-use Rattle.refusal.specs.declared.Refusal.the-variants.{TooShort, TooLong, Extended, WrongLength, WrongChecksum, ReservedMessage, UnequalRuns, PlacePastEnd, BrokenReader, AddressTooLarge, TypeTooLarge, TooMuchData, ReservedToWrite, NoRoom, BrokenRegister, NoSuchLine, NoMotor, NotForRegister, BadReading, RegisterFull, NotHeld, BeyondTravel, NotBlocking, BadSettings, BrokenNode, NotFormOne, TooManyMotors, WrongFormLength, BadContents, BadBody, NoRoomForForm}
+use Rattle.refusal.specs.declared.Refusal.the-variants.{
+  TooShort,
+  TooLong,
+  Extended,
+  WrongLength,
+  WrongChecksum,
+  ReservedMessage,
+  UnequalRuns,
+  PlacePastEnd,
+  BrokenReader,
+  AddressTooLarge,
+  TypeTooLarge,
+  TooMuchData,
+  ReservedToWrite,
+  NoRoom,
+  BrokenRegister,
+  NoSuchLine,
+  NoMotor,
+  NotForRegister,
+  BadReading,
+  RegisterFull,
+  NotHeld,
+  BeyondTravel,
+  NotBlocking,
+  BadSettings,
+  BrokenNode,
+  NotFormOne,
+  TooManyMotors,
+  WrongFormLength,
+  BadContents,
+  BadBody,
+  NoRoomForForm,
+}
 
 -- The rows: bundles, lent runs, the writer, the register, the node, stored forms.
 abbrev table : List Refusal

@@ -11,7 +11,14 @@ use Rattle.meaning.specs.Choice.{if_then_else_}
 use Rattle.travel.specs.declared.Percent.{Percent}
 use Rattle.travel.specs.declared.Pulse.{Pulse}
 use Rattle.travel.specs.Arms.{by-arms}
-use Rattle.travel.specs.Nearest.{nearest, IsNearest, nearest-is, nearest-unique, nearest-at-most, nearest-monotone}
+use Rattle.travel.specs.Nearest.{
+  nearest,
+  IsNearest,
+  nearest-is,
+  nearest-unique,
+  nearest-at-most,
+  nearest-monotone,
+}
 use Rattle.travel.specs.Units.{pulse, percent}
 
 -- Percent of a pulse: 100 × pulse ÷ travel to the nearest whole, halves up; from the travel on, 100.
@@ -27,7 +34,8 @@ module _ (pulse travel : Pulse) where
   unfolding percentOfPulse
   percent-down-limit reached = simp (le-leb _ _ reached)
 
-  pub percent-within : pulse .0 < travel .0 → percentOfPulse pulse travel ≡ percent (nearest (100 * pulse .0) (travel .0))
+  pub percent-within : pulse .0 < travel .0
+      → percentOfPulse pulse travel ≡ percent (nearest (100 * pulse .0) (travel .0))
   unfolding percentOfPulse
   percent-within within = simp (lt-leb _ _ within)
 
@@ -50,14 +58,16 @@ module _ (pulse travel : Pulse) where
 
   -- and nothing else is
   pub percent-only :
-      {k : ℕ} → pulse .0 ≤ travel .0 → IsNearest (100 * pulse .0) (travel .0) k → percentOfPulse pulse travel ≡ percent k
+      {k : ℕ} → pulse .0 ≤ travel .0 → IsNearest (100 * pulse .0) (travel .0) k
+      → percentOfPulse pulse travel ≡ percent k
   percent-only inside is = ap percent (nearest-unique (percent-nearest (omega arith) inside) is)
 
 pub percent-up-limit : (travel : Pulse) → 0 < travel .0 → percentOfPulse (pulse 0) travel ≡ percent 0
 percent-up-limit travel positive = percent-only (pulse 0) travel (omega arith) (record { from = omega arith; below = omega arith })
 
 pub percent-monotone :
-    (lower higher travel : Pulse) → lower .0 ≤ higher .0 → percentOfPulse lower travel .0 ≤ percentOfPulse higher travel .0
+    (lower higher travel : Pulse) → lower .0 ≤ higher .0
+    → percentOfPulse lower travel .0 ≤ percentOfPulse higher travel .0
 unfolding percentOfPulse
 percent-monotone lower higher travel order =
     by-arms
@@ -98,7 +108,8 @@ module _ (percent : Percent) (travel : Pulse) where
       (λ within. nearest-is (omega arith))
 
   -- and nothing else is
-  pub pulse-only : {p : ℕ} → percent .0 ≤ 100 → IsNearest (percent .0 * travel .0) 100 p → pulseOfPercent percent travel ≡ pulse p
+  pub pulse-only : {p : ℕ} → percent .0 ≤ 100 → IsNearest (percent .0 * travel .0) 100 p
+      → pulseOfPercent percent travel ≡ pulse p
   pulse-only inside is = ap pulse (nearest-unique (pulse-nearest inside) is)
 
 pub pulse-up-limit : (travel : Pulse) → pulseOfPercent (percent 0) travel ≡ pulse 0

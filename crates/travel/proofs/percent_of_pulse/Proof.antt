@@ -9,18 +9,6 @@ use Rattle.travel.proofs.percent_of_pulse.Tie as tie
 returns : tie.Need-returns
 returns c = search (needs, percent-down-limit)
 
-cast-nearest : tie.Need-cast-nearest
-cast-nearest c = search needs
-
-mul-nearest : tie.Need-mul-nearest
-mul-nearest c = search needs
-
-cast-nearest-2 : tie.Need-cast-nearest-2
-cast-nearest-2 c = search needs
-
-nearest-requires : tie.Need-nearest-requires
-nearest-requires c κs = search needs
-
 cast-percent : tie.Need-cast-percent
 cast-percent c =
     let s = c .before .before .before .before .before .before .args in
@@ -32,4 +20,4 @@ returns-2 c = search (needs, c .nearest .ensures, percent-within)
 pub percent-of-pulse-spec : {M : Type 1} → statement M
 percent-of-pulse-spec =
     tie.close
-    (tie.spec returns cast-nearest mul-nearest cast-nearest-2 nearest-requires cast-percent returns-2)
+    (tie.spec returns (λ c. search needs) (λ c. search needs) (λ c. search needs) (λ c κs. search needs) cast-percent returns-2)

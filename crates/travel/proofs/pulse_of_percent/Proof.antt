@@ -14,12 +14,6 @@ product percent travel h = mul-le-mul-right travel (omega arith)
 returns : tie.Need-returns
 returns c = search (needs, pulse-down-limit)
 
-cast-nearest : tie.Need-cast-nearest
-cast-nearest c = search needs
-
-cast-nearest-2 : tie.Need-cast-nearest-2
-cast-nearest-2 c = search needs
-
 mul-nearest : tie.Need-mul-nearest
 mul-nearest c =
     let s = c .before .before .before .before .args in
@@ -41,4 +35,4 @@ returns-2 c = search (needs, c .nearest .ensures, pulse-within)
 pub pulse-of-percent-spec : {M : Type 1} → statement M
 pulse-of-percent-spec =
     tie.close
-    (tie.spec returns cast-nearest cast-nearest-2 mul-nearest nearest-requires cast-pulse returns-2)
+    (tie.spec returns (λ c. search needs) (λ c. search needs) mul-nearest nearest-requires cast-pulse returns-2)

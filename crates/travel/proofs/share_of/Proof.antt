@@ -9,18 +9,6 @@ use Rattle.travel.proofs.share_of.Tie as tie
 returns : tie.Need-returns
 returns c = search (needs, share-above-n)
 
-cast-share : tie.Need-cast-share
-cast-share c = search needs
-
-mul-share : tie.Need-mul-share
-mul-share c = search needs
-
-add-share : tie.Need-add-share
-add-share c = search needs
-
-div-share : tie.Need-div-share
-div-share c = search needs
-
 cast-share-2 : tie.Need-cast-share-2
 cast-share-2 c =
     let s = c .before .before .before .args in
@@ -30,4 +18,4 @@ returns-2 : tie.Need-returns-2
 returns-2 c = search (needs, share-to-n)
 
 pub share-of-spec : {M : Type 1} → statement M
-share-of-spec = tie.close (tie.spec returns cast-share mul-share add-share div-share cast-share-2 returns-2)
+share-of-spec = tie.close (tie.spec returns (λ c. search needs) (λ c. search needs) (λ c. search needs) (λ c. search needs) cast-share-2 returns-2)

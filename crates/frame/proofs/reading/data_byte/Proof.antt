@@ -7,15 +7,6 @@ use Rattle.frame.proofs.Content.{data-at, data-past}
 use Rattle.frame.proofs.reading.data_byte.Statement.{statement}
 use Rattle.frame.proofs.reading.data_byte.Tie as tie
 
-data-count-requires : tie.Need-data-count-requires
-data-count-requires c κs = search needs
-
-add-result : tie.Need-add-result
-add-result c = search needs
-
-shared-slice-read-result : tie.Need-shared-slice-read-result
-shared-slice-read-result c = search needs
-
 returns : tie.Need-returns
 returns c =
     let x = c .before .before .before .before .args in
@@ -28,4 +19,4 @@ returns-2 c =
 
 pub data-byte-spec : {M : Type 1} → statement M
 data-byte-spec =
-    tie.close (tie.spec data-count-requires add-result shared-slice-read-result returns returns-2)
+    tie.close (tie.spec (λ c κs. search needs) (λ c. search needs) (λ c. search needs) returns returns-2)

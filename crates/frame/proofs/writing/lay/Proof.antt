@@ -30,53 +30,11 @@ module _ (h : Header) (d part : List ℕ) (room : 11 + length d ≤ length part)
       on-top part body (total / 256 ∷ total % 256 ∷ []) whole third (9 + length d) length-body (omega arith) e p
       ∙ ap (λ (s : ℕ). over (body ++ (s / 256 ∷ s % 256 ∷ [])) part) sum-is
 
-raw-header-requires : tie.Need-raw-header-requires
-raw-header-requires c κs = search needs
-
-slice-aggregate-lay-inverted : tie.Need-slice-aggregate-lay-inverted
-slice-aggregate-lay-inverted c = search needs
-
-lay-inverted-requires : tie.Need-lay-inverted-requires
-lay-inverted-requires c κs = search needs
-
-sub-lay-inverted : tie.Need-sub-lay-inverted
-sub-lay-inverted c = search needs
-
-part-lay-inverted-start : tie.Need-part-lay-inverted-start
-part-lay-inverted-start c = search needs
-
-part-lay-inverted-end : tie.Need-part-lay-inverted-end
-part-lay-inverted-end c = search needs
-
-lay-inverted-requires-2 : tie.Need-lay-inverted-requires-2
-lay-inverted-requires-2 c κs = search needs
-
-add-body : tie.Need-add-body
-add-body c = search needs
-
-slice-reshare-prefix-sum : tie.Need-slice-reshare-prefix-sum
-slice-reshare-prefix-sum c = search needs
-
 slice-aggregate-sum : tie.Need-slice-aggregate-sum
 slice-aggregate-sum c = simp length-take (omega arith)
 
 sum-requires : tie.Need-sum-requires
 sum-requires c κs = simp length-take (omega arith)
-
-sub-lay-checksum : tie.Need-sub-lay-checksum
-sub-lay-checksum c = search needs
-
-part-lay-checksum-start : tie.Need-part-lay-checksum-start
-part-lay-checksum-start c = search needs
-
-part-lay-checksum-end : tie.Need-part-lay-checksum-end
-part-lay-checksum-end c = search needs
-
-lay-checksum-requires : tie.Need-lay-checksum-requires
-lay-checksum-requires c κs = search needs
-
-same-length : tie.Need-same-length
-same-length c = search needs
 
 returns : tie.Need-returns
 returns c =
@@ -99,20 +57,20 @@ pub lay-spec : {M : Type 1} → statement M
 lay-spec =
     tie.close
     (tie.spec
-    raw-header-requires
-    slice-aggregate-lay-inverted
-    lay-inverted-requires
-    sub-lay-inverted
-    part-lay-inverted-start
-    part-lay-inverted-end
-    lay-inverted-requires-2
-    add-body
-    slice-reshare-prefix-sum
+    (λ c κs. search needs)
+    (λ c. search needs)
+    (λ c κs. search needs)
+    (λ c. search needs)
+    (λ c. search needs)
+    (λ c. search needs)
+    (λ c κs. search needs)
+    (λ c. search needs)
+    (λ c. search needs)
     slice-aggregate-sum
     sum-requires
-    sub-lay-checksum
-    part-lay-checksum-start
-    part-lay-checksum-end
-    lay-checksum-requires
-    same-length
+    (λ c. search needs)
+    (λ c. search needs)
+    (λ c. search needs)
+    (λ c κs. search needs)
+    (λ c. search needs)
     returns)

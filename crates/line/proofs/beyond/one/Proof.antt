@@ -6,9 +6,6 @@ use Rattle.line.proofs.Zeros.{one-part}
 use Rattle.line.proofs.beyond.one.Statement.{statement}
 use Rattle.line.proofs.beyond.one.Tie as tie
 
-shared-slice-read-result : tie.Need-shared-slice-read-result
-shared-slice-read-result c = search needs
-
 cast-result : tie.Need-cast-result
 cast-result c = omega (arith, c .shared-slice-known .given (c .before .args .at))
 
@@ -18,4 +15,4 @@ returns c =
     (omega (arith, c .shared-slice-known .given (x .at)), one-part (x .bytes .now) (x .at) (omega arith))
 
 pub one-spec : {M : Type 1} → statement M
-one-spec = tie.close (tie.spec shared-slice-read-result cast-result returns)
+one-spec = tie.close (tie.spec (λ c. search needs) cast-result returns)

@@ -7,21 +7,6 @@ use Rattle.line.proofs.Zeros.{both-parts}
 use Rattle.line.proofs.beyond.two.Statement.{statement}
 use Rattle.line.proofs.beyond.two.Tie as tie
 
-one-requires : tie.Need-one-requires
-one-requires c κs = search needs
-
-add-one : tie.Need-add-one
-add-one c = search needs
-
-one-requires-2 : tie.Need-one-requires-2
-one-requires-2 c κs = search needs
-
-mul-result : tie.Need-mul-result
-mul-result c = search needs
-
-add-result : tie.Need-add-result
-add-result c = search needs
-
 returns : tie.Need-returns
 returns c =
     let a = c .before in
@@ -29,4 +14,4 @@ returns c =
     (omega arith, both-parts (a .one .result) (c .one2 .result) (a .one .result + c .one2 .result * 256) (λ p q. omega arith) (λ e. (omega arith, omega arith)) (x .bytes .now) (x .at) 1 1 (a .one .ensures .1) (c .one2 .ensures .1))
 
 pub two-spec : {M : Type 1} → statement M
-two-spec = tie.close (tie.spec one-requires add-one one-requires-2 mul-result add-result returns)
+two-spec = tie.close (tie.spec (λ c κs. search needs) (λ c. search needs) (λ c κs. search needs) (λ c. search needs) (λ c. search needs) returns)

@@ -19,7 +19,8 @@ abbrev μ-loop : tie.MeasureT-loop
 μ-loop silences from end i₀ i = end - i
 
 -- One silence more.
-longer : (l : List ℕ) (from i : ℕ) → ((k : ℕ) → from ≤ k → k < i → getD l k 0 < 30) → getD l i 0 < 30 → (k : ℕ) → from ≤ k → k < i + 1 → getD l k 0 < 30
+longer : (l : List ℕ) (from i : ℕ) → ((k : ℕ) → from ≤ k → k < i → getD l k 0 < 30) → getD l i 0 < 30 → (k : ℕ) → from ≤ k → k < i + 1
+    → getD l k 0 < 30
 longer l from i q h k a b = go (ltb k i) refl
   where
     go : (t : Bool) → ltb k i ≡ t → getD l k 0 < 30
@@ -29,22 +30,10 @@ longer l from i q h k a b = go (ltb k i) refl
 loop-holds : tie.Need-loop-holds Inv-loop μ-loop
 loop-holds c = (omega arith, omega arith, λ k a b. absurd (omega arith))
 
-mul-if1 : tie.Need-mul-if1 Inv-loop μ-loop
-mul-if1 c = search needs
-
-shared-slice-read-if1 : tie.Need-shared-slice-read-if1 Inv-loop μ-loop
-shared-slice-read-if1 c = search needs
-
 returns : tie.Need-returns Inv-loop μ-loop
 returns c =
     let l = c .before .before .before in
     (l .loop .inv .0, l .loop .inv .1, l .loop .inv .2, λ h. c .if1 .taken)
-
-add-i : tie.Need-add-i Inv-loop μ-loop
-add-i c = search needs
-
-loop-less : tie.Need-loop-less Inv-loop μ-loop
-loop-less c = search needs
 
 loop-again : tie.Need-loop-again Inv-loop μ-loop
 loop-again c =
@@ -63,10 +52,10 @@ first-ending-spec =
     Inv-loop
     μ-loop
     loop-holds
-    mul-if1
-    shared-slice-read-if1
+    (λ c. search needs)
+    (λ c. search needs)
     returns
-    add-i
-    loop-less
+    (λ c. search needs)
+    (λ c. search needs)
     loop-again
     returns-2)

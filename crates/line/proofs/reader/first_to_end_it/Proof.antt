@@ -7,9 +7,6 @@ use mathlib.Core.Logic.{inl, inr}
 use Rattle.line.proofs.reader.first_to_end_it.Statement.{statement}
 use Rattle.line.proofs.reader.first_to_end_it.Tie as tie
 
-add-result : tie.Need-add-result
-add-result c = search needs
-
 returns : tie.Need-returns
 returns c = (omega arith, omega arith, inr (refl, omega arith))
 
@@ -20,4 +17,4 @@ returns-3 : tie.Need-returns-3
 returns-3 c = (omega arith, omega arith, inl (refl, inl (c .if1 .left)))
 
 pub first-to-end-it-spec : {M : Type 1} → statement M
-first-to-end-it-spec = tie.close (tie.spec add-result returns returns-2 returns-3)
+first-to-end-it-spec = tie.close (tie.spec (λ c. search needs) returns returns-2 returns-3)

@@ -11,12 +11,6 @@ use Rattle.line.proofs.Joining.{more-than-room}
 use Rattle.line.proofs.reader.lay_all.Statement.{statement}
 use Rattle.line.proofs.reader.lay_all.Tie as tie
 
-room-behind-requires : tie.Need-room-behind-requires
-room-behind-requires c κs = search needs
-
-lay-first-requires : tie.Need-lay-first-requires
-lay-first-requires c κs = search needs
-
 returns : tie.Need-returns
 returns c =
     let room = c .before .before .before in
@@ -31,12 +25,6 @@ returns c =
     (omega arith)
     (c .lay-first .ensures)
 
-lay-first-requires-2 : tie.Need-lay-first-requires-2
-lay-first-requires-2 c κs = search needs
-
-add-result : tie.Need-add-result
-add-result c = search needs
-
 returns-2 : tie.Need-returns-2
 returns-2 c =
     let x = c .before .before .before .before .before .args in
@@ -46,9 +34,9 @@ pub lay-all-spec : {M : Type 1} → statement M
 lay-all-spec =
     tie.close
     (tie.spec
-    room-behind-requires
-    lay-first-requires
+    (λ c κs. search needs)
+    (λ c κs. search needs)
     returns
-    lay-first-requires-2
-    add-result
+    (λ c κs. search needs)
+    (λ c. search needs)
     returns-2)

@@ -9,22 +9,10 @@ use Rattle.line.proofs.Steps.{close-broken, close-ends}
 use Rattle.line.proofs.reader.Reader.close.Statement.{statement}
 use Rattle.line.proofs.reader.Reader.close.Tie as tie
 
-is-sound-requires : tie.Need-is-sound-requires
-is-sound-requires c κs = search needs
-
-answering-requires : tie.Need-answering-requires
-answering-requires c κs = search needs
-
 returns : tie.Need-returns
 returns c =
     let t = c .before in
     c .answering .ensures ∙ sym (close-broken (t .before .before .args .self) (sym (t .before .is-sound .ensures) ∙ not-true _ (t .if1 .taken)))
-
-fresh-requires : tie.Need-fresh-requires
-fresh-requires c κs = search needs
-
-ended-requires : tie.Need-ended-requires
-ended-requires c κs = search needs
 
 returns-2 : tie.Need-returns-2
 returns-2 c =
@@ -35,4 +23,4 @@ returns-2 c =
     ∙ sym (close-ends (x .self) (sym (t .before .is-sound .ensures) ∙ not-false _ (t .if1 .left)))
 
 pub close-spec : {M : Type 1} → statement M
-close-spec = tie.close (tie.spec is-sound-requires answering-requires returns fresh-requires ended-requires returns-2)
+close-spec = tie.close (tie.spec (λ c κs. search needs) (λ c κs. search needs) returns (λ c κs. search needs) (λ c κs. search needs) returns-2)

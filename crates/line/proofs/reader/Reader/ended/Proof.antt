@@ -22,20 +22,12 @@ frame Nothing kept next e = absurd (omega arith)
 frame (Frame h n) kept next e = refl
 frame (Refused q) kept next e = absurd (omega arith)
 
-no-frame : (a : Answer) (kept : List ℕ) (next : Reader) → (tagOf the-type a ≡ 0) ⊎ (tagOf the-type a ≡ 2) → stepped next a noBytes ≡ beside a kept next
+no-frame : (a : Answer) (kept : List ℕ) (next : Reader) → (tagOf the-type a ≡ 0) ⊎ (tagOf the-type a ≡ 2)
+    → stepped next a noBytes ≡ beside a kept next
 no-frame Nothing kept next e = refl
 no-frame (Frame h n) kept next (inl e) = absurd (omega arith)
 no-frame (Frame h n) kept next (inr e) = absurd (omega arith)
 no-frame (Refused q) kept next e = refl
-
-judged-requires : tie.Need-judged-requires
-judged-requires c κs = search needs
-
-enum-told : tie.Need-enum-told
-enum-told c = search needs
-
-answering-requires : tie.Need-answering-requires
-answering-requires c κs = search needs
 
 returns : tie.Need-returns
 returns c =
@@ -54,4 +46,4 @@ returns-2 c =
     ∙ ended-as-answered (x .self) (x .next) fresh (sym (j .judged .ensures))
 
 pub ended-spec : {M : Type 1} → statement M
-ended-spec = tie.close (tie.spec judged-requires enum-told answering-requires returns returns-2)
+ended-spec = tie.close (tie.spec (λ c κs. search needs) (λ c. search needs) (λ c κs. search needs) returns returns-2)

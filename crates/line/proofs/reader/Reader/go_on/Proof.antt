@@ -33,7 +33,8 @@ sound c =
     let x = start .args in
     rw (c .lay-all .ensures) (sound-all (x .self) (take (e .bundle-end .result - x .place) (drop (x .place) (x .bytes .now))) (begins-sound start))
 
-is-open : (c : tie.After-lay-all) → c .before .before .before .before .bundle-end .result < length (c .before .before .before .before .before .before .before .before .args .bytes .now)
+is-open : (c : tie.After-lay-all)
+    → c .before .before .before .before .bundle-end .result < length (c .before .before .before .before .before .before .before .before .args .bytes .now)
     → after c .count ≢ 0
 is-open c h none =
     let e = c .before .before .before .before in
@@ -55,9 +56,6 @@ goes c =
     (f .first-to-end-it .ensures .2) (e .bundle-end .ensures .2)
     ∙ ap (λ (r : Reader). runOf r (drop j (x .bytes .now)) (drop j (x .silences .now)) j) (sym (c .lay-all .ensures))
 
-first-to-end-it-requires : tie.Need-first-to-end-it-requires
-first-to-end-it-requires c κs = search needs
-
 bundle-end-requires : tie.Need-bundle-end-requires
 bundle-end-requires c κs = omega arith
 
@@ -66,24 +64,6 @@ sub-lay-all c = omega arith
 
 part-lay-all-start : tie.Need-part-lay-all-start
 part-lay-all-start c = omega arith
-
-part-lay-all-end : tie.Need-part-lay-all-end
-part-lay-all-end c = search needs
-
-lay-all-requires : tie.Need-lay-all-requires
-lay-all-requires c κs = search needs
-
-shared-slice-read-begun : tie.Need-shared-slice-read-begun
-shared-slice-read-begun c = search needs
-
-begun-requires : tie.Need-begun-requires
-begun-requires c κs = search needs
-
-ended-requires : tie.Need-ended-requires
-ended-requires c κs = search needs
-
-add-t22 : tie.Need-add-t22
-add-t22 c = search needs
 
 returns : tie.Need-returns
 returns c =
@@ -100,9 +80,6 @@ returns c =
     ap (λ (s : Stepped). goesOn (s .answer)) (c .ended .ensures) ∙ ended-stops r (c .before .begun .result) (is-open l (omega arith)) in
     sym (goes l ∙ last-one r (x .bytes .now) (x .silences .now) j (c .ended .result) (omega arith) (omega arith) ends stops)
 
-answering-requires : tie.Need-answering-requires
-answering-requires c κs = search needs
-
 returns-2 : tie.Need-returns-2
 returns-2 c =
     let l = c .before .before in
@@ -115,16 +92,16 @@ pub go-on-spec : {M : Type 1} → statement M
 go-on-spec =
     tie.close
     (tie.spec
-    first-to-end-it-requires
+    (λ c κs. search needs)
     bundle-end-requires
     sub-lay-all
     part-lay-all-start
-    part-lay-all-end
-    lay-all-requires
-    shared-slice-read-begun
-    begun-requires
-    ended-requires
-    add-t22
+    (λ c. search needs)
+    (λ c κs. search needs)
+    (λ c. search needs)
+    (λ c κs. search needs)
+    (λ c κs. search needs)
+    (λ c. search needs)
     returns
-    answering-requires
+    (λ c κs. search needs)
     returns-2)

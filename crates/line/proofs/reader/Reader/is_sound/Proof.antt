@@ -8,14 +8,8 @@ use Rattle.line.proofs.reader.Reader.is_sound.Tie as tie
 returns : tie.Need-returns
 returns c = simp (lt-leb _ _ (c .if1 .taken))
 
-slice-aggregate-are-zeros : tie.Need-slice-aggregate-are-zeros
-slice-aggregate-are-zeros c = search needs
-
-are-zeros-requires : tie.Need-are-zeros-requires
-are-zeros-requires c κs = search needs
-
 returns-2 : tie.Need-returns-2
 returns-2 c = simp (le-leb _ _ (c .before .before .before .if1 .left)) (c .are-zeros .ensures)
 
 pub is-sound-spec : {M : Type 1} → statement M
-is-sound-spec = tie.close (tie.spec returns slice-aggregate-are-zeros are-zeros-requires returns-2)
+is-sound-spec = tie.close (tie.spec returns (λ c. search needs) (λ c κs. search needs) returns-2)

@@ -33,15 +33,6 @@ array-share-prefix-kept c = let n = len (c .before .before .before) in omega ari
 slice-aggregate-read : tie.Need-slice-aggregate-read
 slice-aggregate-read c = let n = len (c .before .before .before .before) in simp length-take (omega arith)
 
-read-requires : tie.Need-read-requires
-read-requires c κs = search needs
-
-enum-known-reading : tie.Need-enum-known-reading
-enum-known-reading c = search needs
-
-enum-known-reading-2 : tie.Need-enum-known-reading-2
-enum-known-reading-2 c = search needs
-
 returns-3 : tie.Need-returns-3
 returns-3 c =
     let s = c .before .before .before in
@@ -62,8 +53,8 @@ judged-spec =
     returns-2
     array-share-prefix-kept
     slice-aggregate-read
-    read-requires
-    enum-known-reading
-    enum-known-reading-2
+    (λ c κs. search needs)
+    (λ c. search needs)
+    (λ c. search needs)
     returns-3
     returns-4)

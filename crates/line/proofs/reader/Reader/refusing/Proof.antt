@@ -7,11 +7,8 @@ use Rattle.line.specs.declared.reader.Stepped.{Stepped}
 use Rattle.line.proofs.reader.Reader.refusing.Statement.{statement}
 use Rattle.line.proofs.reader.Reader.refusing.Tie as tie
 
-answering-requires : tie.Need-answering-requires
-answering-requires c κs = search needs
-
 returns : tie.Need-returns
 returns c = ap (λ (s : Stepped). ran s (c .before .args .place)) (c .answering .ensures)
 
 pub refusing-spec : {M : Type 1} → statement M
-refusing-spec = tie.close (tie.spec answering-requires returns)
+refusing-spec = tie.close (tie.spec (λ c κs. search needs) returns)

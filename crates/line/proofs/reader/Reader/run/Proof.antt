@@ -8,20 +8,11 @@ use Rattle.line.proofs.Steps.{run-broken, run-unequal, run-past-end, ru
 use Rattle.line.proofs.reader.Reader.run.Statement.{statement}
 use Rattle.line.proofs.reader.Reader.run.Tie as tie
 
-is-sound-requires : tie.Need-is-sound-requires
-is-sound-requires c κs = search needs
-
-refusing-requires : tie.Need-refusing-requires
-refusing-requires c κs = search needs
-
 returns : tie.Need-returns
 returns c =
     let t = c .before in
     let x = t .before .before .before .before .args in
     c .refusing .ensures ∙ sym (run-broken (x .self) (x .bytes .now) (x .silences .now) (x .place) (sym (t .before .is-sound .ensures) ∙ not-true _ (t .if1 .taken)))
-
-refusing-requires-2 : tie.Need-refusing-requires-2
-refusing-requires-2 c κs = search needs
 
 returns-2 : tie.Need-returns-2
 returns-2 c =
@@ -29,9 +20,6 @@ returns-2 c =
     let x = t .before .before .before .before .args in
     c .refusing2 .ensures
     ∙ sym (run-unequal (x .self) (x .bytes .now) (x .silences .now) (x .place) (sym (t .before .is-sound .ensures) ∙ not-false _ (t .if1 .left)) (c .before .if2 .taken))
-
-refusing-requires-3 : tie.Need-refusing-requires-3
-refusing-requires-3 c κs = search needs
 
 returns-3 : tie.Need-returns-3
 returns-3 c =
@@ -58,12 +46,12 @@ pub run-spec : {M : Type 1} → statement M
 run-spec =
     tie.close
     (tie.spec
-    is-sound-requires
-    refusing-requires
+    (λ c κs. search needs)
+    (λ c κs. search needs)
     returns
-    refusing-requires-2
+    (λ c κs. search needs)
     returns-2
-    refusing-requires-3
+    (λ c κs. search needs)
     returns-3
     go-on-requires
     returns-4)

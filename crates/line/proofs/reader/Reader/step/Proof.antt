@@ -13,23 +13,11 @@ use Rattle.line.proofs.Steps.{step-broken, step-ends, step-joins}
 use Rattle.line.proofs.reader.Reader.step.Statement.{statement}
 use Rattle.line.proofs.reader.Reader.step.Tie as tie
 
-is-sound-requires : tie.Need-is-sound-requires
-is-sound-requires c κs = search needs
-
-answering-requires : tie.Need-answering-requires
-answering-requires c κs = search needs
-
 returns : tie.Need-returns
 returns c =
     let t = c .before in
     let x = t .before .before .args in
     c .answering .ensures ∙ sym (step-broken (x .self) (x .byte) (x .silence) (sym (t .before .is-sound .ensures) ∙ not-true _ (t .if1 .taken)))
-
-begun-requires : tie.Need-begun-requires
-begun-requires c κs = search needs
-
-ended-requires : tie.Need-ended-requires
-ended-requires c κs = search needs
 
 returns-2 : tie.Need-returns-2
 returns-2 c =
@@ -38,12 +26,6 @@ returns-2 c =
     c .ended .ensures
     ∙ ap (λ (r : Reader). endedWith (x .self) r) (c .before .begun .ensures)
     ∙ sym (step-ends (x .self) (x .byte) (x .silence) (sym (t .before .is-sound .ensures) ∙ not-false _ (t .if1 .left)) (omega arith))
-
-lay-in-requires : tie.Need-lay-in-requires
-lay-in-requires c κs = search needs
-
-answering-requires-2 : tie.Need-answering-requires-2
-answering-requires-2 c κs = search needs
 
 returns-3 : tie.Need-returns-3
 returns-3 c =
@@ -58,12 +40,12 @@ pub step-spec : {M : Type 1} → statement M
 step-spec =
     tie.close
     (tie.spec
-    is-sound-requires
-    answering-requires
+    (λ c κs. search needs)
+    (λ c κs. search needs)
     returns
-    begun-requires
-    ended-requires
+    (λ c κs. search needs)
+    (λ c κs. search needs)
     returns-2
-    lay-in-requires
-    answering-requires-2
+    (λ c κs. search needs)
+    (λ c κs. search needs)
     returns-3)
