@@ -8,10 +8,10 @@ use lib.Dec.{ltb}
 use lib.ListN.{length, getD, drop, replicate, length-replicate, getD-replicate, List·getD-append}
 use lib.Seq.{drop-drop, getD-append-add, ext-getD}
 use borrow.Author.Tests.{ltb-true, ltb-false}
+use Rattle.meaning.specs.Cases.{by-test}
 use Rattle.motors.specs.Motor.{zeros}
 use Rattle.motors.specs.Register.{filled}
 use Rattle.motors.specs.declared.motor.Motor.{Motor}
-use Rattle.motors.proofs.Cases.{by-test}
 use Rattle.motors.proofs.Edits.{Edited, edit-start}
 use Rattle.motors.proofs.InOrder.{length-filled}
 use Rattle.form.specs.Layout.{motorOf, motorsOf}
@@ -42,7 +42,8 @@ module _ (b : List ℕ) (first count : ℕ) (few : count ≤ 256) where
       e ∙ sym (filled-at motors i (omega (arith, number)) ∙ motor-at count i (drop 3 b) (drop first b) h
       ∙ ap₂ motorOf (drop-drop (6 * i) 3 b) (drop-drop (5 * i) first b))
 
-  pub all-filled : (m : Motor) (i : ℕ) (all : List Motor) → m ≡ zeros → count ≤ i → i ≤ count → Edited (replicate 256 m) (filled motors) i all → all ≡ filled motors
+  pub all-filled : (m : Motor) (i : ℕ) (all : List Motor) → m ≡ zeros → count ≤ i → i ≤ count → Edited (replicate 256 m) (filled motors) i all
+      → all ≡ filled motors
   all-filled m i all e h h′ edited =
       ext-getD zeros all (filled motors) (edited .long ∙ sym (length-filled motors (omega (arith, number)))) each
     where

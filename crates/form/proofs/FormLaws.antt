@@ -3,35 +3,34 @@
 use Prim.Native.Nat.{ℕ, _*_, _/_, _%_, _≤_}
 use native.Mathlib.Omega.{arith}
 use mathlib.Core.Path.{_≡_, refl, _∙_, sym, ap, ap₂, subst}
-use mathlib.Core.Bool.{true, not}
+use mathlib.Core.Bool.{true}
 use mathlib.Core.List.{List, [], _∷_, _++_, append-nil}
-use lib.Dec.{ltb, eqb}
 use lib.ListN.{length, getD, take, drop, length-append, length-drop, drop-of-length-le}
 use lib.Seq.{take-at, drop-at, drop-drop}
-use borrow.Author.Tests.{ltb-false, eqb-true, not-false}
 use Rattle.meaning.specs.Bytes.{Bytes, drop-bytes}
-use Rattle.meaning.specs.Choice.{either}
+use Rattle.meaning.specs.Tables.{of-decided}
 use Rattle.refusal.specs.declared.Refusal.{Refusal}
 use Rattle.frame.specs.Writing.{over}
 use Rattle.motors.specs.Motor.{zeros}
-use Rattle.motors.specs.Register.{held, filled, soundOf}
+use Rattle.motors.specs.Register.{held, filled, soundOf, Sound}
 use Rattle.motors.specs.Filing.{keeping}
 use Rattle.motors.specs.declared.answer.Answer.{Answer}
 use Rattle.motors.specs.declared.answer.Answer.the-variants as answer
 use Rattle.motors.specs.declared.answer.Next.{Next}
 use Rattle.motors.specs.declared.motor.Motor.{Motor}
-use Rattle.motors.proofs.InOrder.{Sound, sound-is, is-sound}
+use Rattle.motors.proofs.InOrder.{sound-is, is-sound}
 use Rattle.motors.proofs.Register.{length-held}
 use Rattle.motors.proofs.FilingLaws.{held-again}
-use Rattle.form.specs.Layout.{twoBytes, firstBody, formLength, contentsOf, bodiesOf, formOf, contentsRight, bodiesRight, motorsOf}
-use Rattle.form.specs.Reading.{countIn, contentsIn, bodiesIn, readOf}
+use Rattle.frame.specs.Words.{bytesOfWord}
+use Rattle.form.specs.Layout.{firstBody, formLength, contentsOf, bodiesOf, formOf, contentsRight, bodiesRight, motorsOf, TwoBytePulses}
+use Rattle.form.specs.Reading.{countIn, contentsIn, bodiesIn, readFormTable, readOf}
 use Rattle.form.specs.Writing.{writtenOf, laid, bufferAfter}
 use Rattle.form.specs.declared.writing.Written.{Written}
 use Rattle.form.specs.declared.writing.Written.the-variants.{Bytes as WrittenBytes, Refused}
 use Rattle.form.proofs.Steps.{length-motors}
 use Rattle.form.proofs.Laying.{length-contents, length-bodies}
-use Rattle.form.proofs.FormRows.{accepted, written}
-use Rattle.form.proofs.ReadBack.{TwoBytePulses, contents-back, bodies-back, motors-back}
+use Rattle.form.proofs.Rows.{read-by, written-by}
+use Rattle.form.proofs.ReadBack.{contents-back, bodies-back, motors-back}
 use Rattle.form.proofs.WrittenBack.{three-bytes, motors-in-order, contents-again, bodies-again}
 
 -- ---- the form of some records
@@ -47,7 +46,7 @@ module _ (l : List Motor) where
   bodies-of-form : drop (firstBody (length l)) (formOf l) ≡ bodiesOf l ++ []
   unfolding formOf
   bodies-of-form =
-      drop-at (1 ∷ (twoBytes (length l) ++ contentsOf (firstBody (length l)) l)) (bodiesOf l) (firstBody (length l))
+      drop-at (1 ∷ (bytesOfWord (length l) ++ contentsOf (firstBody (length l)) l)) (bodiesOf l) (firstBody (length l))
       (omega (arith, length-contents (firstBody (length l)) l))
       ∙ sym (append-nil (bodiesOf l))
 
@@ -95,9 +94,13 @@ module _ (run : List Motor) (count : ℕ) (ok : soundOf run count ≡ true) (pul
   pub read-of-written-is-the-register : (other : List Motor) → length other ≡ 256
       → readOf other form ≡ next run count
   read-of-written-is-the-register other full =
-      accepted other form full
-      (omega (arith, length-form (held run count))) (first-byte (held run count)) (omega (arith, count-is, few))
-      (length-form (held run count) ∙ ap formLength (sym count-is)) contents-are bodies-are
+      sym (read-by other form 6 (
+        full,
+        (
+          (omega (arith, length-form (held run count)), first-byte (held run count)),
+          (omega (arith, count-is, few), (length-form (held run count) ∙ ap formLength (sym count-is), (contents-are, (bodies-are, tt)))),
+        ),
+      ))
       ∙ ap keeping motors-are
       ∙ ap₂ next (sym (sound .zeros-behind)) number
 
@@ -123,22 +126,8 @@ module _ (run : List Motor) (b : List ℕ) where
   read-as : As (readOf run b)
   unfolding readOf
   read-as =
-      either As (not (eqb (length run) 256)) (λ t. refl) λ full.
-      either As (ltb (length b) 3) (λ t. refl) λ long.
-      either As (not (eqb (getD b 0 0) 1)) (λ t. refl) λ one.
-      either As (ltb 256 (countIn b)) (λ t. refl) λ few.
-      either As (not (eqb (length b) (formLength (countIn b)))) (λ t. refl) λ size.
-      either As (not (contentsRight zeros (firstBody (countIn b)) (countIn b) (contentsIn b))) (λ t. refl) λ contents.
-      either As (not (bodiesRight (countIn b) (bodiesIn b))) (λ t. refl) λ bodies.
-      record {
-        begins-with-1 = eqb-true (getD b 0 0) 1 (not-false _ one);
-        at-most-256 = ltb-false 256 (countIn b) few;
-        as-long-as-it-says = eqb-true (length b) (formLength (countIn b)) (not-false _ size);
-        contents-right = not-false _ contents;
-        bodies-right = not-false _ bodies;
-        places = refl;
-        number = refl;
-      }
+      of-decided As (readFormTable run b) (keeping (motorsOf (countIn b) (contentsIn b) (bodiesIn b)))
+      (search) (λ facts. search)
 
   abbrev after : Next
   after = readOf run b
@@ -195,7 +184,7 @@ module _ (run : List Motor) (b : List ℕ) where
           → (writtenOf (after .motors) n (length buffer) ≡ WrittenBytes (length b)) × (bufferAfter (after .motors) n buffer ≡ over b buffer)
       a-form-read-and-written-again-is-the-same buffer room =
           let n-is : formLength n ≡ length b = ap formLength the-count-is-the-one-stored ∙ sym (done .as-long-as-it-says) in
-          let answered = written (after .motors) n (length buffer) an-accepted-form-gives-a-sound-register (omega (arith, n-is)) in (
+          let answered = written-by (after .motors) n (length buffer) 2 (an-accepted-form-gives-a-sound-register, (omega (arith, n-is), tt)) in (
             answered ∙ ap WrittenBytes n-is,
             ap (λ (w : Written). laid w (after .motors) n buffer) answered ∙ ap (λ (w : List ℕ). over w buffer) written-of-read-is-the-bytes,
           )
@@ -223,6 +212,6 @@ a-register-written-and-read-again-is-the-same run count ok pulses buffer room ot
     let form = formOf (held run count) in
     let size : length form ≡ formLength count = length-form (held run count) ∙ ap formLength (length-held run count ok) in
     ap (λ (w : List ℕ). readOf other (take (formLength count) w))
-    (the-form-stands-at-the-start run count buffer (formLength count) (written run count (length buffer) ok room))
+    (the-form-stands-at-the-start run count buffer (formLength count) (written-by run count (length buffer) 2 (ok, (room, tt))))
     ∙ ap (readOf other) (take-at form (drop (length form) buffer) (formLength count) size)
     ∙ read-of-written-is-the-register run count ok pulses other full

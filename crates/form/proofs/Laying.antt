@@ -13,7 +13,8 @@ use Rattle.frame.specs.Writing.{over}
 use Rattle.frame.proofs.Over.{on-top}
 use Rattle.motors.specs.Motor.{zeros}
 use Rattle.motors.specs.declared.motor.Motor.{Motor}
-use Rattle.form.specs.Layout.{twoBytes, firstBody, formLength, entryBytes, bodyBytes, contentsOf, bodiesOf, formOf}
+use Rattle.frame.specs.Words.{bytesOfWord}
+use Rattle.form.specs.Layout.{firstBody, formLength, entryBytes, bodyBytes, contentsOf, bodiesOf, formOf}
 
 pub length-contents : (place : ℕ) (l : List Motor) → length (contentsOf place l) ≡ 6 * length l
 unfolding contentsOf
@@ -108,7 +109,7 @@ passed-all all count i h = take-all i (take count all) (simp length-take (omega 
 -- The form is laid where its three parts are.
 module _ (buffer : List ℕ) (l : List Motor) (count : ℕ) (n : length l ≡ count) (room : formLength count ≤ length buffer) where
   abbrev head : List ℕ
-  head = 1 ∷ twoBytes count
+  head = 1 ∷ bytesOfWord count
 
   form-parts : (head ++ contentsOf (firstBody count) l) ++ bodiesOf l ≡ formOf l
   unfolding formOf

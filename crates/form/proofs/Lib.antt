@@ -1,7 +1,7 @@
 pub mod Steps
 pub mod Laying
 pub mod Filling
-pub mod FormRows
+pub mod Rows
 pub mod ReadBack
 pub mod WrittenBack
 pub mod FormLaws

@@ -5,41 +5,49 @@ use native.Mathlib.Omega.{arith}
 use mathlib.Core.Path.{_≡_, refl, _∙_, sym, ap, ap₂}
 use mathlib.Core.Bool.{Bool, true, false}
 use mathlib.Core.List.{List, [], _∷_, _++_, append-assoc}
-use lib.Dec.{eqb, ltb, leb}
+use lib.Dec.{eqb}
 use lib.ListN.{length, getD, drop}
-use borrow.Author.Tests.{eqb-true, leb-true, eq-eqb}
+use borrow.Author.Tests.{eqb-true, eq-eqb}
+use Rattle.meaning.specs.Cases.{by-test, passed-both}
 use Rattle.meaning.specs.Choice.{if_then_else_, either}
 use Rattle.frame.specs.Address.{address, addressOf, bytesOf}
 use Rattle.frame.specs.declared.address.Address.{Address}
 use Rattle.frame.proofs.Addresses.{address-of-its-bytes}
-use Rattle.motors.specs.Motor.{motor, unread, isLine, isNode, isReading, unreadPart, earlierOf, rightOf, followsOf}
+use Rattle.motors.specs.Motor.{motor, unread, isLine, aNode, isNode, isReading, unreadPart, earlierOf, rightOf, followsOf}
 use Rattle.motors.specs.declared.motor.Motor.{Motor}
-use Rattle.motors.proofs.Cases.{by-test, both, neither}
-use Rattle.motors.proofs.InOrder.{InOrder}
-use Rattle.form.specs.Layout.{entryBytes, bodyBytes, contentsOf, bodiesOf, entryOf, entryRight, contentsRight, bodyRight, bodiesRight, motorOf, motorsOf}
-
--- Every pulse is a number of two bytes, as a `u16` is.
-abbrev pub TwoBytePulses : List Motor → Type 0
-TwoBytePulses [] = Unit {0}
-TwoBytePulses (m ∷ l) = (m .pulse < 65536) × TwoBytePulses l
+use Rattle.motors.specs.Register.{InOrder}
+use Rattle.form.specs.Layout.{
+  entryBytes,
+  bodyBytes,
+  contentsOf,
+  bodiesOf,
+  entryOf,
+  entryRight,
+  contentsRight,
+  bodyRight,
+  bodiesRight,
+  motorOf,
+  motorsOf,
+  TwoBytePulses,
+}
 
 -- ---- what a right record says
 module _ (m : Motor) (right : rightOf m ≡ true) where
   line-right : isLine (m .line) ≡ true
   unfolding rightOf
-  line-right = both (isLine (m .line)) _ right .0
+  line-right = passed-both (isLine (m .line)) _ right .0
 
   node-right : isNode (m .node) ≡ true
   unfolding rightOf
-  node-right = both (isNode (m .node)) _ (both (isLine (m .line)) _ right .1) .0
+  node-right = passed-both (isNode (m .node)) _ (passed-both (isLine (m .line)) _ right .1) .0
 
   node-small : m .node ≤ 0xFFFFFF
   unfolding isNode
-  node-small = omega (arith, leb-true (m .node) 0xFFFEFF (neither (ltb (m .node) 0x000001) (leb (m .node) 0xFFFEFF) node-right .1))
+  node-small = omega (arith, aNode (m .node) .is-fact node-right .1)
 
   reading-part : (if m .reading then isReading (m .percent) (m .ip) else unreadPart m) ≡ true
   unfolding rightOf
-  reading-part = both (isNode (m .node)) _ (both (isLine (m .line)) _ right .1) .1
+  reading-part = passed-both (isNode (m .node)) _ (passed-both (isLine (m .line)) _ right .1) .1
 
   reading-right : m .reading ≡ true → isReading (m .percent) (m .ip) ≡ true
   reading-right t = rw t at reading-part
@@ -48,8 +56,8 @@ module _ (m : Motor) (right : rightOf m ≡ true) where
   unfolding unreadPart
   without-reading t =
       let u : unreadPart m ≡ true = rw t at reading-part in
-      let p = both (eqb (m .pulse) 0) _ u in
-      let q = both (eqb (m .percent) 0) _ (p .1) in
+      let p = passed-both (eqb (m .pulse) 0) _ u in
+      let q = passed-both (eqb (m .percent) 0) _ (p .1) in
       let pulse : m .pulse ≡ 0 = eqb-true _ _ (p .0) in
       let percent : m .percent ≡ 0 = eqb-true _ _ (q .0) in
       let ip : m .ip ≡ 0 = eqb-true _ _ (q .1) in

@@ -9,13 +9,26 @@ use lib.Dec.{eqb}
 use lib.ListN.{length, getD, drop, length-drop}
 use lib.Seq.{drop-cons, drop-drop}
 use borrow.Author.Tests.{eqb-true}
+use Rattle.meaning.specs.Cases.{by-test, passed-both}
 use Rattle.meaning.specs.Bytes.{Bytes, drop-bytes}
 use Rattle.frame.proofs.Addresses.{low-byte, middle-byte, high-byte}
 use Rattle.motors.specs.Motor.{isLine, isNode, unreadPart, earlierOf, rightOf, followsOf}
 use Rattle.motors.specs.declared.motor.Motor.{Motor}
-use Rattle.motors.proofs.Cases.{by-test, both}
-use Rattle.motors.proofs.InOrder.{InOrder}
-use Rattle.form.specs.Layout.{pairAt, entryBytes, bodyBytes, contentsOf, bodiesOf, entryOf, entryRight, contentsRight, bodyRight, bodiesRight, motorOf, motorsOf}
+use Rattle.motors.specs.Register.{InOrder}
+use Rattle.frame.specs.Words.{wordAt}
+use Rattle.form.specs.Layout.{
+  entryBytes,
+  bodyBytes,
+  contentsOf,
+  bodiesOf,
+  entryOf,
+  entryRight,
+  contentsRight,
+  bodyRight,
+  bodiesRight,
+  motorOf,
+  motorsOf,
+}
 
 -- ---- the first bytes of a list, one by one
 module _ (l : List ℕ) where
@@ -48,20 +61,20 @@ module _ (c d : List ℕ) where
   motor-right : (p : Motor) → followsOf p (entryOf c) ≡ true → bodyRight d ≡ true → rightOf (motorOf c d) ≡ true
   unfolding followsOf rightOf bodyRight unreadPart
   motor-right p f r =
-      let e = both (rightOf (entryOf c)) _ f .0 in
-      let l = both (isLine (entryOf c .line)) _ e in
-      let n = both (isNode (entryOf c .node)) _ (l .1) in
+      let e = passed-both (rightOf (entryOf c)) _ f .0 in
+      let l = passed-both (isLine (entryOf c .line)) _ e in
+      let n = passed-both (isNode (entryOf c .node)) _ (l .1) in
       by-test (eqb (getD d 0 0) 1) (λ t. rw (t, l .0, n .0) (rw t at r)) (λ t. rw (t, l .0, n .0))
 
   motor-later : (p : Motor) → followsOf p (entryOf c) ≡ true → earlierOf p (motorOf c d) ≡ true
   unfolding followsOf earlierOf
-  motor-later p f = rw (same-line, same-node) (both (rightOf (entryOf c)) _ f .1)
+  motor-later p f = rw (same-line, same-node) (passed-both (rightOf (entryOf c)) _ f .1)
 
   module _ (cb : Bytes c) (cl : 6 ≤ length c) where
-    entry-again : (place : ℕ) → pairAt c 4 ≡ place → entryBytes (motorOf c d) place ++ drop 6 c ≡ c
+    entry-again : (place : ℕ) → wordAt c 4 ≡ place → entryBytes (motorOf c d) place ++ drop 6 c ≡ c
     entry-again place e =
-        let low : pairAt c 4 % 256 ≡ getD c 4 0 = omega (arith, cb 4 (omega arith), cb 5 (omega arith)) in
-        let high : pairAt c 4 / 256 ≡ getD c 5 0 = omega (arith, cb 4 (omega arith), cb 5 (omega arith)) in
+        let low : wordAt c 4 % 256 ≡ getD c 4 0 = omega (arith, cb 4 (omega arith), cb 5 (omega arith)) in
+        let high : wordAt c 4 / 256 ≡ getD c 5 0 = omega (arith, cb 4 (omega arith), cb 5 (omega arith)) in
         rw (
           same-line,
           same-node,
@@ -77,10 +90,10 @@ module _ (c d : List ℕ) where
     five-zeros : bodyRight d ≡ true → eqb (getD d 0 0) 1 ≡ false → 0 ∷ 0 ∷ 0 ∷ 0 ∷ 0 ∷ drop 5 d ≡ d
     unfolding bodyRight
     five-zeros r t =
-        let a = both (eqb (getD d 0 0) 0) _ (rw t at r) in
-        let b = both (eqb (getD d 1 0) 0) _ (a .1) in
-        let c = both (eqb (getD d 2 0) 0) _ (b .1) in
-        let e = both (eqb (getD d 3 0) 0) _ (c .1) in
+        let a = passed-both (eqb (getD d 0 0) 0) _ (rw t at r) in
+        let b = passed-both (eqb (getD d 1 0) 0) _ (a .1) in
+        let c = passed-both (eqb (getD d 2 0) 0) _ (b .1) in
+        let e = passed-both (eqb (getD d 3 0) 0) _ (c .1) in
         sym (five-bytes d dl ∙ rw (
           eqb-true (getD d 0 0) 0 (a .0),
           eqb-true (getD d 1 0) 0 (b .0),
@@ -94,16 +107,16 @@ module _ (c d : List ℕ) where
         by-test (eqb (getD d 0 0) 1)
         (λ t.
         let one : getD d 0 0 ≡ 1 = eqb-true _ _ t in
-        let low : pairAt d 1 % 256 ≡ getD d 1 0 = omega (arith, db 1 (omega arith), db 2 (omega arith)) in
-        let high : pairAt d 1 / 256 ≡ getD d 2 0 = omega (arith, db 1 (omega arith), db 2 (omega arith)) in
+        let low : wordAt d 1 % 256 ≡ getD d 1 0 = omega (arith, db 1 (omega arith), db 2 (omega arith)) in
+        let high : wordAt d 1 / 256 ≡ getD d 2 0 = omega (arith, db 1 (omega arith), db 2 (omega arith)) in
         rw (t, low, high) (ap (λ (n : ℕ). n ∷ getD d 1 0 ∷ getD d 2 0 ∷ getD d 3 0 ∷ getD d 4 0 ∷ drop 5 d) (sym one) ∙ sym (five-bytes d dl)))
         (λ t. rw t (five-zeros r t))
 
 -- ---- all of them
 module _ (p : Motor) (place : ℕ) (c : List ℕ) where
-  entry-facts : entryRight p place c ≡ true → (followsOf p (entryOf c) ≡ true) × (pairAt c 4 ≡ place)
+  entry-facts : entryRight p place c ≡ true → (followsOf p (entryOf c) ≡ true) × (wordAt c 4 ≡ place)
   unfolding entryRight
-  entry-facts r = let s = both (followsOf p (entryOf c)) _ r in (s .0, eqb-true _ _ (s .1))
+  entry-facts r = let s = passed-both (followsOf p (entryOf c)) _ r in (s .0, eqb-true _ _ (s .1))
 
 same-behind : (c d : List ℕ) (l : List Motor) → InOrder (entryOf c) l → InOrder (motorOf c d) l
 unfolding earlierOf
@@ -115,8 +128,8 @@ pub motors-in-order : (p : Motor) (place count : ℕ) (c d : List ℕ) → conte
 unfolding contentsRight bodiesRight motorsOf
 motors-in-order p place zero c d r s = tt
 motors-in-order p place (suc count) c d r s =
-    let e = both (entryRight p place c) _ r in
-    let b = both (bodyRight d) _ s in
+    let e = passed-both (entryRight p place c) _ r in
+    let b = passed-both (bodyRight d) _ s in
     let f = entry-facts p place c (e .0) .0 in (
       motor-right c d p f (b .0),
       motor-later c d p f,
@@ -128,7 +141,7 @@ pub contents-again : (p : Motor) (place count : ℕ) (c d : List ℕ) → Bytes 
 unfolding contentsRight motorsOf contentsOf
 contents-again p place zero c d cb cl r = refl
 contents-again p place (suc count) c d cb cl r =
-    let e = both (entryRight p place c) _ r in
+    let e = passed-both (entryRight p place c) _ r in
     let place-is = entry-facts p place c (e .0) .1 in
     let six : 6 + 6 * count ≡ 6 * suc count = omega arith in
     let on = contents-again (entryOf c) (place + 5) count (drop 6 c) (drop 5 d) (drop-bytes 6 c cb) (rest c cl) (e .1) in
@@ -143,7 +156,7 @@ pub bodies-again : (count : ℕ) (c d : List ℕ) → Bytes d → 5 * count ≤ 
 unfolding bodiesRight motorsOf bodiesOf
 bodies-again zero c d db dl r = refl
 bodies-again (suc count) c d db dl r =
-    let b = both (bodyRight d) _ r in
+    let b = passed-both (bodyRight d) _ r in
     let five : 5 + 5 * count ≡ 5 * suc count = omega arith in
     let on = bodies-again count (drop 6 c) (drop 5 d) (drop-bytes 5 d db) (rest d dl) (b .1) in
     rw (append-assoc (bodyBytes (motorOf c d)) (bodiesOf (motorsOf count (drop 6 c) (drop 5 d))) (drop (5 * suc count) d), ← five, ← drop-drop (5 * count) 5 d)

@@ -1,11 +1,10 @@
 -- Writing stored form 1 (document 01, rows 19 and 45): the answer, and what then stands in the lent buffer.
 -- Assumes nothing.
 use Prim.Native.Nat.{ℕ}
-use mathlib.Core.Bool.{not}
-use mathlib.Core.List.{List}
-use lib.Dec.{ltb}
+use mathlib.Core.List.{List, [], _∷_}
 use lib.ListN.{length}
-use Rattle.meaning.specs.Choice.{if_then_else_}
+use Rattle.meaning.specs.Tests.{_below_, fails}
+use Rattle.meaning.specs.Tables.{Row, _when_, decide}
 use Rattle.refusal.specs.declared.Refusal.{Refusal}
 use Rattle.frame.specs.Writing.{over}
 use Rattle.motors.specs.Register.{held, soundOf}
@@ -14,11 +13,16 @@ use Rattle.form.specs.Layout.{formLength, formOf}
 use Rattle.form.specs.declared.writing.Written.{Written}
 use Rattle.form.specs.declared.writing.Written.the-variants.{Bytes, Refused}
 
+-- Why a form is not written: rows 19 and 45.
+abbrev pub writeFormTable : List Motor → ℕ → ℕ → List (Row Written)
+writeFormTable run count room =
+    Refused Refusal.BrokenRegister when fails (soundOf run count)
+    ∷ Refused Refusal.NoRoomForForm when room below formLength count
+    ∷ []
+
+-- The first reason that applies, or the number of bytes.
 unfoldable pub writtenOf : List Motor → ℕ → ℕ → Written
-writtenOf run count room =
-    if not (soundOf run count) then Refused Refusal.BrokenRegister else
-    if ltb room (formLength count) then Refused Refusal.NoRoomForForm else
-    Bytes (formLength count)
+writtenOf run count room = decide (writeFormTable run count room) (Bytes (formLength count))
 
 -- The form's own bytes from the start, and nothing else changed; a refusal changes no byte.
 abbrev pub laid : Written → List Motor → ℕ → List ℕ → List ℕ

@@ -1,13 +1,15 @@
-// Numbers of two bytes, low byte first, and bytes put into a lent buffer.
+// Numbers of two bytes, and bytes put into a lent buffer.
+use frame::word;
 ghost use mathlib.Core.Path.{_≡_};
 ghost use Prim.Native.Nat.{_+_, _*_, _/_, _%_, _<_, _≤_};
 ghost use lib.ListN.{length};
+ghost use Rattle.frame.specs.Words.{wordOf};
 ghost use Rattle.frame.specs.Writing.{over};
 
 pub(crate) fn pair(low: u8, high: u8) -> usize
-    ensures { λ r. ⌜ r ≡ low + 256 * high ⌝ }
+    ensures { λ r. ⌜ r ≡ wordOf low high ⌝ }
 {
-    low as usize + 256 * (high as usize)
+    word(low, high) as usize
 }
 
 pub(crate) fn low(number: usize) -> u8

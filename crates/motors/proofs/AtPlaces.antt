@@ -9,18 +9,19 @@ use mathlib.Core.List.{List, [], _∷_, _++_, append-assoc}
 use mathlib.Core.Option.{none}
 use lib.ListN.{length, getD, take, drop, set, replicate, length-append, length-drop, length-take, length-set, replicate-append-replicate}
 use lib.Seq.{take-append-le, drop-append-le, take-append-add, set-append-left, getD-take}
-use borrow.Author.Tests.{le-leb, lt-leb}
+use borrow.Author.Tests.{leb-true}
+use Rattle.meaning.specs.Cases.{by-test}
 use Rattle.refusal.specs.declared.Refusal.{Refusal}
 use Rattle.motors.specs.Motor.{zeros, unread, earlierOf, isMotor, isLine}
-use Rattle.motors.specs.Register.{filled, soundOf, foundIn}
-use Rattle.motors.specs.Filing.{renewed, entered, enteredOf, without, struckOf, isSome, refusing}
+use Rattle.motors.specs.Register.{filled, soundOf, foundIn, InOrder, Sound}
+use Rattle.motors.specs.Filing.{renewed, entered, enteredOf, without, struckOf, isSome, is-none, refusing}
 use Rattle.motors.specs.declared.answer.Answer.the-variants.{Count}
 use Rattle.motors.specs.declared.answer.Next.{Next}
 use Rattle.motors.specs.declared.motor.Motor.{Motor}
 use Rattle.motors.proofs.Gaps.{placeOf, inserted, removed}
-use Rattle.motors.proofs.Cases.{by-test}
+use Rattle.motors.proofs.Rows.{entered-by, struck-by}
 use Rattle.motors.proofs.Order.{earlier-is-another, else-later}
-use Rattle.motors.proofs.InOrder.{InOrder, Sound, sound-is}
+use Rattle.motors.proofs.InOrder.{sound-is}
 use Rattle.motors.proofs.Held.{here, further, none-held, not-behind, past, again, anew}
 
 -- ---- the place of a motor among the records held
@@ -175,7 +176,6 @@ module _ (run : List Motor) (count : ℕ) (ok : soundOf run count ≡ true) wher
 
     pub enters-again : p < count → isMotor (getD run p zeros) (m .line) (m .node) ≡ true → (x : Motor) → x ≡ renewed (getD run p zeros) m
         → next (set run p x) count ≡ enteredOf run count m
-    unfolding enteredOf
     enters-again h s x e =
         let g = at-held p h in
         let b : entered (take count run) m ≡ set (take count run) p x =
@@ -183,7 +183,7 @@ module _ (run : List Motor) (count : ℕ) (ok : soundOf run count ≡ true) wher
         let n : length (entered (take count run) m) ≡ count = ap length b ∙ length-set (take count run) p x ∙ number in
         let f : set run p x ≡ filled (entered (take count run) m) =
         ap (λ (r : List Motor). set r p x) (sound .zeros-behind) ∙ filled-set (take count run) p few x (omega (arith, number)) ∙ ap filled (sym b) in
-        rw (le-leb (length (entered (take count run) m)) 256 (omega (arith, n, sound .at-most-256))) (ap₂ next f (sym n))
+        ap₂ next f (sym n) ∙ sym (entered-by run count m 1 (omega (arith, n, sound .at-most-256), tt))
 
     module _ (new : p < count → isMotor (getD run p zeros) (m .line) (m .node) ≡ false) where
       between : entered (take count run) m ≡ take p (take count run) ++ m ∷ drop p (take count run)
@@ -194,24 +194,21 @@ module _ (run : List Motor) (count : ℕ) (ok : soundOf run count ≡ true) wher
       one-more = ap length between ∙ simp (length-append, length-drop, length-take) (omega (arith, number, place-at-most, sound .of-256-places, sound .at-most-256))
 
       pub row-24 : count ≡ 256 → refusing run Refusal.RegisterFull ≡ enteredOf run count m
-      unfolding enteredOf
-      row-24 h = rw (lt-leb (length (entered (take count run) m)) 256 (omega (arith, one-more)))
+      row-24 h = sym (entered-by run count m 0 (omega (arith, one-more)))
 
       pub enters-new : (count ≡ 256 → ⊥) → (all : List Motor) → all ≡ inserted run p m
           → next all (count + 1) ≡ enteredOf run count m
-      unfolding enteredOf
       enters-new h all e =
           let f : all ≡ filled (entered (take count run) m) =
           e ∙ ap (λ (r : List Motor). inserted r p m) (sound .zeros-behind)
           ∙ filled-insert (take count run) p few m (omega (arith, number, place-at-most)) (omega (arith, number, h, sound .at-most-256))
           ∙ ap filled (sym between) in
           let n : count + 1 ≡ length (entered (take count run) m) = omega (arith, one-more) in
-          rw (le-leb (length (entered (take count run) m)) 256 (omega (arith, one-more, h, sound .at-most-256))) (ap₂ next f n)
+          ap₂ next f n ∙ sym (entered-by run count m 1 (omega (arith, one-more, h, sound .at-most-256), tt))
 
   module _ (line node p : ℕ) (is-line : isLine line ≡ true) (at : p ≡ placeOf (take count run) (unread line node)) where
     pub strikes : p < count → isMotor (getD run p zeros) line node ≡ true → (all : List Motor) → all ≡ removed run p
         → next all (count - 1) ≡ struckOf run count line node
-    unfolding struckOf
     strikes h s all e =
         let there = struck-at line node (take count run) (omega (arith, at, number)) (rw (← at, at-held p h) s) in
         let w : without (take count run) line node ≡ take p (take count run) ++ drop (suc p) (take count run) = there .1 ∙ rw (← at) in
@@ -220,11 +217,10 @@ module _ (run : List Motor) (count : ℕ) (ok : soundOf run count ≡ true) wher
         ∙ filled-remove (take count run) p few (omega (arith, number)) ∙ ap filled (sym w) in
         let n : count - 1 ≡ length (without (take count run) line node) =
         sym (ap length w ∙ simp (length-append, length-drop, length-take) (omega (arith, number, h, sound .of-256-places, sound .at-most-256))) in
-        rw (ok, is-line, there .0) (ap₂ next f n)
+        ap₂ next f n ∙ sym (struck-by run count line node 3 (ok, (leb-true line 3 is-line, (there .0, tt))))
 
     pub row-25 : (p < count → isMotor (getD run p zeros) line node ≡ false) → refusing run Refusal.NotHeld ≡ struckOf run count line node
-    unfolding struckOf
     row-25 new =
         let gone = not-struck line node zeros (take count run) (sound .in-order)
         (λ h. let k : p < count = omega (arith, at, number, h) in rw (← at, at-held p k) (new k)) in
-        rw (ok, is-line, gone)
+        sym (struck-by run count line node 2 (ok, (leb-true line 3 is-line, is-none _ (rw gone))))

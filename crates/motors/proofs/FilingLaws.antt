@@ -4,21 +4,19 @@ use Prim.Native.Nat.{ℕ, suc, _+_, _≤_}
 use native.Mathlib.Omega.{arith}
 use mathlib.Core.Path.{_≡_, refl, _∙_, sym, ap, ap₂, subst}
 use mathlib.Core.Logic.{_≢_}
-use mathlib.Core.Bool.{true, not}
+use mathlib.Core.Bool.{true}
 use mathlib.Core.List.{List}
 use mathlib.Core.Option.{Option, none, some}
-use lib.Dec.{leb}
 use lib.ListN.{length}
 use lib.Seq.{take-at}
-use borrow.Author.Tests.{leb-true, not-false}
-use Rattle.meaning.specs.Choice.{either}
+use Rattle.meaning.specs.Tables.{of-decided}
 use Rattle.refusal.specs.declared.Refusal.{Refusal}
 use Rattle.frame.specs.Layout.{message, source, headerOf, dataOf}
 use Rattle.frame.specs.Reading.{IsFrame}
 use Rattle.motors.specs.Motor.{zeros, unread, withReading}
 use Rattle.motors.specs.Register.{held, filled, soundOf, foundIn, found}
 use Rattle.motors.specs.Report.{reportOf, pulseIn, percentIn, ipIn}
-use Rattle.motors.specs.Filing.{entered, enteredOf, filedBy, filedOf, isSome}
+use Rattle.motors.specs.Filing.{keeping, entered, enterTable, enteredOf, filedBy, fileTable, filedOf, isSome, countAfter}
 use Rattle.motors.specs.declared.answer.Answer.{Answer}
 use Rattle.motors.specs.declared.answer.Answer.the-variants.{Count, Refused}
 use Rattle.motors.specs.declared.answer.Next.{Next}
@@ -27,7 +25,16 @@ use Rattle.motors.specs.declared.report.Report.{Report}
 use Rattle.motors.specs.declared.report.Report.the-variants as report
 use Rattle.motors.proofs.Order.{another, zeros-first}
 use Rattle.motors.proofs.InOrder.{sound-is, is-sound}
-use Rattle.motors.proofs.Held.{renewedIf, more, entered-in-order, entered-another, entered-itself, entered-keeps, entered-number, entered-at-most-one-more}
+use Rattle.motors.proofs.Held.{
+  renewedIf,
+  more,
+  entered-in-order,
+  entered-another,
+  entered-itself,
+  entered-keeps,
+  entered-number,
+  entered-at-most-one-more,
+}
 use Rattle.motors.proofs.Register.{length-held}
 use Rattle.motors.proofs.Shown.{Shown, seen}
 
@@ -41,11 +48,6 @@ latest : (f : Option Motor) (line node pulse percent ip : ℕ)
     → renewedIf f (withReading line node pulse percent ip) ≡ withReading line node pulse percent ip
 latest none line node pulse percent ip = refl
 latest (some x) line node pulse percent ip = refl
-
--- The count after a call: the answer's, or the one before.
-abbrev pub countAfter : ℕ → Answer → ℕ
-countAfter count (Count n) = n
-countAfter count (Refused r) = count
 
 module _ (run : List Motor) (count line : ℕ) (b : List ℕ) where
   -- A frame that is filed: the register was sound, and the motor that the frame shows is entered.
@@ -69,17 +71,16 @@ module _ (run : List Motor) (count line : ℕ) (b : List ℕ) where
   unfolding enteredOf
   entered-as ok m e =
       let s = seen line b m e in
-      either As (leb (length (entered (held run count) m)) 256)
-      (λ t. record {
+      of-decided As (enterTable run count m) (keeping (entered (held run count) m)) (refl, tt)
+      (λ facts. record {
         ok = ok;
         motor = m;
         is-frame = s .0;
         shown = s .1;
-        at-most-256 = leb-true _ _ t;
+        at-most-256 = facts .0;
         places = refl;
         number = refl;
       })
-      (λ t. refl)
 
   reported-as : soundOf run count ≡ true → (r : Report) → reportOf line b ≡ r → As (filedBy run count r)
   reported-as ok (report.Seen m) e = entered-as ok m e
@@ -87,7 +88,8 @@ module _ (run : List Motor) (count line : ℕ) (b : List ℕ) where
 
   filed-as : As (filedOf run count line b)
   unfolding filedOf
-  filed-as = either As (not (soundOf run count)) (λ t. refl) (λ t. reported-as (not-false _ t) (reportOf line b) refl)
+  filed-as =
+      of-decided As (fileTable run count) (filedBy run count (reportOf line b)) (refl, tt) (λ facts. reported-as (facts .0) (reportOf line b) refl)
 
   abbrev after : Next
   after = filedOf run count line b

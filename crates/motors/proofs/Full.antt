@@ -9,7 +9,8 @@ use mathlib.Core.List.{List}
 use mathlib.Core.Option.{Option, none, some}
 use lib.Dec.{leb}
 use lib.ListN.{length}
-use borrow.Author.Tests.{leb-true, leb-false, le-leb, lt-leb}
+use borrow.Author.Tests.{leb-true, leb-false}
+use Rattle.meaning.specs.Cases.{by-test}
 use Rattle.refusal.specs.declared.Refusal.{Refusal}
 use Rattle.motors.specs.Motor.{zeros}
 use Rattle.motors.specs.Register.{held, soundOf, found}
@@ -20,11 +21,10 @@ use Rattle.motors.specs.declared.answer.Answer.the-variants.{Count, Refu
 use Rattle.motors.specs.declared.answer.Next.{Next}
 use Rattle.motors.specs.declared.motor.Motor.{Motor}
 use Rattle.motors.specs.declared.report.Report.the-variants.{Seen}
-use Rattle.motors.proofs.Cases.{by-test}
 use Rattle.motors.proofs.InOrder.{sound-is}
 use Rattle.motors.proofs.Held.{more, entered-number}
 use Rattle.motors.proofs.Register.{length-held}
-use Rattle.motors.proofs.FilingRows.{as-reported}
+use Rattle.motors.proofs.Rows.{entered-by, as-reported}
 
 pub never-both : (a : Answer) (n : ℕ) (r : Refusal) → a ≡ Count n → a ≡ Refused r → ⊥
 never-both a n r p q = let z : _≡_ {A = ℕ} 0 1 = cc in omega arith
@@ -36,27 +36,28 @@ module _ (run : List Motor) (count : ℕ) (m : Motor) (ok : soundOf run count �
       ∙ ap (λ (n : ℕ). more (found run count (m .line) (m .node)) + n) (length-held run count ok)
 
   taken : length (entered (held run count) m) ≤ 256 → enteredOf run count m .answer ≡ Count (length (entered (held run count) m))
-  unfolding enteredOf
-  taken h = rw (le-leb _ _ h)
+  taken h = ap (λ (x : Next). x .answer) (entered-by run count m 1 (h, tt))
 
   full : 256 < length (entered (held run count) m) → enteredOf run count m .answer ≡ Refused Refusal.RegisterFull
-  unfolding enteredOf
-  full h = rw (lt-leb _ _ h)
+  full h = ap (λ (x : Next). x .answer) (entered-by run count m 0 h)
 
   new-and-full : (f : Option Motor) → found run count (m .line) (m .node) ≡ f → 256 < more f + count → (f ≡ none) × (count ≡ 256)
   new-and-full none e h = (refl, omega (arith, sound-is run count ok .at-most-256))
   new-and-full (some x) e h = absurd (omega (arith, sound-is run count ok .at-most-256))
 
+  -- What is entered would be a 257th record exactly when the motor is new and 256 are held.
+  pub beyond-exactly-when : (256 < length (entered (held run count) m)) ↔ ((found run count (m .line) (m .node) ≡ none) × (count ≡ 256))
+  beyond-exactly-when =
+      (λ h. new-and-full (found run count (m .line) (m .node)) refl (omega (arith, number)), λ s. omega (arith, number, ap more (s .0), s .1))
+
   only-then : enteredOf run count m .answer ≡ Refused Refusal.RegisterFull → (found run count (m .line) (m .node) ≡ none) × (count ≡ 256)
   only-then e =
       by-test (leb (length (entered (held run count) m)) 256)
       (λ t. absurd (never-both (enteredOf run count m .answer) (length (entered (held run count) m)) Refusal.RegisterFull (taken (leb-true _ _ t)) e))
-      (λ t. new-and-full (found run count (m .line) (m .node)) refl (omega (arith, number, leb-false (length (entered (held run count) m)) 256 t)))
+      (λ t. beyond-exactly-when .0 (leb-false (length (entered (held run count) m)) 256 t))
 
   then-too : (found run count (m .line) (m .node) ≡ none) × (count ≡ 256) → enteredOf run count m .answer ≡ Refused Refusal.RegisterFull
-  then-too s =
-      let one : more (found run count (m .line) (m .node)) ≡ 1 = ap more (s .0) in
-      full (omega (arith, number, one, s .1))
+  then-too s = full (beyond-exactly-when .1 s)
 
   -- A report is taken exactly when its motor is held already, or there is a place for one more.
   abbrev HasAPlace : Type 0
@@ -80,15 +81,6 @@ module _ (run : List Motor) (count : ℕ) (m : Motor) (ok : soundOf run count �
   pub taken-exactly-when : HasAPlace ↔ ((n : ℕ) × (enteredOf run count m .answer ≡ Count n))
   taken-exactly-when =
       (λ h. (length (entered (held run count) m), taken (omega (arith, number, few-enough (found run count (m .line) (m .node)) h))), with-a-place)
-
-  pub taken-or-full : ((n : ℕ) × (enteredOf run count m .answer ≡ Count n)) ⊎ (enteredOf run count m .answer ≡ Refused Refusal.RegisterFull)
-  taken-or-full =
-      by-test (leb (length (entered (held run count) m)) 256)
-      (λ t. inl (length (entered (held run count) m), taken (leb-true _ _ t)))
-      (λ t. inr (full (leb-false _ _ t)))
-
-  pub entered-full-exactly-when : (enteredOf run count m .answer ≡ Refused Refusal.RegisterFull) ↔ ((found run count (m .line) (m .node) ≡ none) × (count ≡ 256))
-  entered-full-exactly-when = (only-then, then-too)
 
   pub full-exactly-when : (line : ℕ) (b : List ℕ) → reportOf line b ≡ Seen m
       → (filedOf run count line b .answer ≡ Refused Refusal.RegisterFull) ↔ ((found run count (m .line) (m .node) ≡ none) × (count ≡ 256))

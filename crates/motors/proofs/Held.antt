@@ -7,14 +7,25 @@ use mathlib.Core.Bool.{true, false, false≢true}
 use mathlib.Core.List.{List, [], _∷_}
 use mathlib.Core.Option.{Option, none, some}
 use lib.ListN.{length}
+use Rattle.meaning.specs.Cases.{by-test}
 use Rattle.meaning.specs.Choice.{either}
 use Rattle.motors.specs.Motor.{earlierOf, isMotor, rightOf}
-use Rattle.motors.specs.Register.{foundIn}
+use Rattle.motors.specs.Register.{foundIn, InOrder}
 use Rattle.motors.specs.Filing.{renewed, entered, without, isSome}
 use Rattle.motors.specs.declared.motor.Motor.{Motor}
-use Rattle.motors.proofs.Cases.{by-test}
-use Rattle.motors.proofs.Order.{itself, known, by-both, another, not-both, earlier-still, earlier-is-another, later-is-another, else-later, same-before, same-behind}
-use Rattle.motors.proofs.InOrder.{InOrder}
+use Rattle.motors.proofs.Order.{
+  itself,
+  known,
+  by-both,
+  another,
+  not-both,
+  earlier-still,
+  earlier-is-another,
+  later-is-another,
+  else-later,
+  same-before,
+  same-behind,
+}
 
 pub none-held : (line node : ℕ) → foundIn [] line node ≡ none
 unfolding foundIn
@@ -131,7 +142,8 @@ module _ (m : Motor) where
       rw (t, s) (here m (x ∷ l) (m .line) (m .node) (itself m) ∙ ap (λ (f : Option Motor). some (renewedIf f m)) (sym none-left)))
 
 -- Nothing held is lost.
-pub entered-keeps : (l : List Motor) (m : Motor) (line node : ℕ) → isSome (foundIn l line node) ≡ true → isSome (foundIn (entered l m) line node) ≡ true
+pub entered-keeps : (l : List Motor) (m : Motor) (line node : ℕ) → isSome (foundIn l line node) ≡ true
+    → isSome (foundIn (entered l m) line node) ≡ true
 unfolding entered foundIn
 entered-keeps [] m line node h = absurd (false≢true h)
 entered-keeps (x ∷ l) m line node h =

@@ -9,27 +9,15 @@ use mathlib.Core.List.{List, [], _∷_, _++_}
 use lib.Dec.{eqb, leb, ltb}
 use lib.ListN.{length, take, drop, replicate, length-append, length-replicate, length-take, take-append-drop}
 use borrow.Author.Tests.{eqb-true, leb-true, lt-ltb, le-leb, eq-eqb}
+use Rattle.meaning.specs.Cases.{passed-both}
 use Rattle.motors.specs.Motor.{zeros, earlierOf, rightOf, blankOf, followsOf, unreadPart}
-use Rattle.motors.specs.Register.{filled, soundFrom, soundOf}
+use Rattle.motors.specs.Register.{filled, soundFrom, soundOf, InOrder, Sound}
 use Rattle.motors.specs.declared.motor.Motor.{Motor}
-use Rattle.motors.proofs.Cases.{both}
 use Rattle.motors.proofs.Order.{blank-is-zeros}
-
--- Records that are right and strictly ascending behind `previous`.
-abbrev pub InOrder : Motor → List Motor → Type 0
-InOrder previous [] = Unit {0}
-InOrder previous (m ∷ l) = (rightOf m ≡ true) × (earlierOf previous m ≡ true) × InOrder m l
-
--- Row 19 as facts.
-pub record Sound (run : List Motor) (count : ℕ) : Type 0 where
-  pub of-256-places : length run ≡ 256
-  pub at-most-256 : count ≤ 256
-  pub in-order : InOrder zeros (take count run)
-  pub zeros-behind : run ≡ filled (take count run)
 
 follows-is : (p m : Motor) → followsOf p m ≡ true → (rightOf m ≡ true) × (earlierOf p m ≡ true)
 unfolding followsOf
-follows-is p m e = both (rightOf m) (earlierOf p m) e
+follows-is p m e = passed-both (rightOf m) (earlierOf p m) e
 
 follows-so : (p m : Motor) → rightOf m ≡ true → earlierOf p m ≡ true → followsOf p m ≡ true
 unfolding followsOf
@@ -48,14 +36,14 @@ told p (suc count) [] e =
     let n : 0 - suc count ≡ 0 = omega arith in
     (tt, rw n)
 told p zero (m ∷ l) e =
-    let s = both (blankOf m) (soundFrom m 0 l) e in
+    let s = passed-both (blankOf m) (soundFrom m 0 l) e in
     let behind = told m zero l (s .1) .1 in
     let n : suc (length l) - 0 ≡ suc (length l - 0) = omega arith in
     (tt, rw (n, blank-is-zeros m (s .0)) (ap (λ (r : List Motor). zeros ∷ r) behind))
 told p (suc count) (m ∷ l) e =
     let held : ltb 0 (suc count) ≡ true = lt-ltb 0 (suc count) (omega arith) in
     let less : suc count - 1 ≡ count = omega arith in
-    let s = both (followsOf p m) (soundFrom m count l) (rw (held, less) at e) in
+    let s = passed-both (followsOf p m) (soundFrom m count l) (rw (held, less) at e) in
     let f = follows-is p m (s .0) in
     let on = told m count l (s .1) in
     let n : suc (length l) - suc count ≡ length l - count = omega arith in
@@ -81,8 +69,8 @@ length-filled l h = rw (length-append, length-replicate) (omega arith)
 pub sound-is : (run : List Motor) (count : ℕ) → soundOf run count ≡ true → Sound run count
 unfolding soundOf filled
 sound-is run count e =
-    let s = both (eqb (length run) 256) _ e in
-    let t = both (leb count 256) (soundFrom zeros count run) (s .1) in
+    let s = passed-both (eqb (length run) 256) _ e in
+    let t = passed-both (leb count 256) (soundFrom zeros count run) (s .1) in
     let full = eqb-true (length run) 256 (s .0) in
     let few = leb-true count 256 (t .0) in
     let on = told zeros count run (t .1) in

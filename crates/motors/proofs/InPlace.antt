@@ -11,9 +11,10 @@ use lib.Dec.{leb, ltb}
 use lib.ListN.{length, getD, set, take, replicate, length-set, length-take, length-replicate, getD-replicate, List·getD-eq-default}
 use lib.Seq.{getD-set-same, getD-set-other, getD-append-add, set-getD, ext-getD}
 use borrow.Author.Tests.{ltb-true, ltb-false, lt-ltb, leb-true, leb-false, ne-eqb}
+use Rattle.meaning.specs.Cases.{by-test}
 use Rattle.refusal.specs.declared.Refusal.{Refusal}
 use Rattle.motors.specs.Motor.{zeros, unread, isLine}
-use Rattle.motors.specs.Register.{soundOf, filled}
+use Rattle.motors.specs.Register.{soundOf, filled, Sound}
 use Rattle.motors.specs.Places.{carriedUp, carriedDown, movedUp, movedDown}
 use Rattle.motors.specs.Report.{reportOf}
 use Rattle.motors.specs.Survey.{surveyOf}
@@ -28,11 +29,22 @@ use Rattle.motors.specs.declared.survey.Survey.{Survey}
 use Rattle.motors.specs.declared.report.Report.{Report}
 use Rattle.motors.specs.declared.report.Report.the-variants as report
 use Rattle.motors.proofs.Gaps.{placeOf, inserted, removed}
-use Rattle.motors.proofs.Cases.{by-test}
-use Rattle.motors.proofs.InOrder.{Sound, sound-is}
+use Rattle.motors.proofs.InOrder.{sound-is}
 use Rattle.motors.proofs.AtPlaces.{place-at-most, enters-again, row-24, enters-new, strikes, row-25}
-use Rattle.motors.proofs.Edits.{Edited, edit-start, edit-more, insert-long, insert-before, insert-here, insert-after, remove-long, remove-before, remove-at, remove-last}
-use Rattle.motors.proofs.FilingRows.{row-19, row-19-striking, row-20-striking, as-reported}
+use Rattle.motors.proofs.Edits.{
+  Edited,
+  edit-start,
+  edit-more,
+  insert-long,
+  insert-before,
+  insert-here,
+  insert-after,
+  remove-long,
+  remove-before,
+  remove-at,
+  remove-last,
+}
+use Rattle.motors.proofs.Rows.{filed-by, as-reported, struck-by}
 use Rattle.motors.proofs.Surveyed.{Finds, survey-says-sound, survey-finds}
 
 -- The places and the answer that an edit leaves.
@@ -150,7 +162,8 @@ module _ (run : List Motor) (count : ℕ) (ok : soundOf run count ≡ true) wher
       done : (k : ℕ) → p + n ≤ k → k < 256 → getD b k zeros ≡ getD closed k zeros
       rest : (k : ℕ) → k < p + n → getD b k zeros ≡ getD run k zeros
 
-    lower-more : (n : ℕ) (b : List Motor) (c : Motor) → p + suc n ≤ 256 → Lowered (suc n) b → c ≡ getD closed (p + n) zeros → Lowered n (set b (p + n) c)
+    lower-more : (n : ℕ) (b : List Motor) (c : Motor) → p + suc n ≤ 256 → Lowered (suc n) b → c ≡ getD closed (p + n) zeros
+        → Lowered n (set b (p + n) c)
     lower-more n b c small L z = record {
       long = length-set b (p + n) c ∙ L .long;
       done = λ k h h′. elim (eq-or-lt-of-le {n = p + n} {m = k} h) [
@@ -160,7 +173,8 @@ module _ (run : List Motor) (count : ℕ) (ok : soundOf run count ≡ true) wher
       rest = λ k h. getD-set-other b (p + n) k c zeros (λ e. omega (arith, e, h)) ∙ L .rest k (omega arith);
     }
 
-    carries-down : (n : ℕ) (b : List Motor) (c : Motor) → p + n ≤ 256 → Lowered n b → (0 < n → c ≡ getD closed (p + n - 1) zeros) → carriedDown b p n c ≡ closed
+    carries-down : (n : ℕ) (b : List Motor) (c : Motor) → p + n ≤ 256 → Lowered n b → (0 < n → c ≡ getD closed (p + n - 1) zeros)
+        → carriedDown b p n c ≡ closed
     unfolding carriedDown
     carries-down zero b c small L z =
         ext-getD zeros b closed (L .long ∙ sym (remove-long run p full small-place)) (λ k l.
@@ -262,13 +276,14 @@ module _ (run : List Motor) (count : ℕ) where
   filing-in-place line b =
       by-test (soundOf run count)
       (λ ok. filed (reportOf line b) ok ∙ sym (as-reported run count line b (reportOf line b) ok refl))
-      (λ e. broken-filing (reportOf line b) e ∙ sym (row-19 run count line b e))
+      (λ e. broken-filing (reportOf line b) e ∙ sym (filed-by run count line b 0 e))
 
   module _ (line node : ℕ) where
     abbrev key : Motor
     key = unread line node
 
-    struck : soundOf run count ≡ true → isLine line ≡ true → editedDown run (toStrike (surveyOf run count key) count line) ≡ struckOf run count line node
+    struck : soundOf run count ≡ true → isLine line ≡ true
+        → editedDown run (toStrike (surveyOf run count key) count line) ≡ struckOf run count line node
     unfolding toStrike
     struck ok l =
         let found = survey-finds key count run (full run count ok) (few run count ok) in
@@ -281,7 +296,8 @@ module _ (run : List Motor) (count : ℕ) where
         (strikes run count ok line node p l refl (there .0) (there .1) _ (gap-closes run count ok p (there .0))))
         (λ h. rw (survey-says-sound key count run ∙ ok, l, h, none-moved-down run zeros) (row-25 run count ok line node p l refl (found .new h)))
 
-    off-the-lines : soundOf run count ≡ true → isLine line ≡ false → editedDown run (toStrike (surveyOf run count key) count line) ≡ refusing run Refusal.NoSuchLine
+    off-the-lines : soundOf run count ≡ true → isLine line ≡ false
+        → editedDown run (toStrike (surveyOf run count key) count line) ≡ refusing run Refusal.NoSuchLine
     unfolding toStrike
     off-the-lines ok l = rw (survey-says-sound key count run ∙ ok, l, none-moved-down run zeros)
 
@@ -292,5 +308,5 @@ module _ (run : List Motor) (count : ℕ) where
     pub striking-in-place : editedDown run (toStrike (surveyOf run count key) count line) ≡ struckOf run count line node
     striking-in-place =
         by-test (soundOf run count)
-        (λ ok. by-test (isLine line) (struck ok) (λ l. off-the-lines ok l ∙ sym (row-20-striking run count line node ok l)))
-        (λ e. broken-striking e ∙ sym (row-19-striking run count line node e))
+        (λ ok. by-test (isLine line) (struck ok) (λ l. off-the-lines ok l ∙ sym (struck-by run count line node 1 (ok, leb-false line 3 l))))
+        (λ e. broken-striking e ∙ sym (struck-by run count line node 0 e))

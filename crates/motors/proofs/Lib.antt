@@ -1,12 +1,10 @@
 pub mod Gaps
-pub mod ReportRows
+pub mod Rows
 pub mod Edits
-pub mod Cases
 pub mod Order
 pub mod InOrder
 pub mod Held
 pub mod AtPlaces
-pub mod FilingRows
 pub mod Shown
 pub mod Register
 pub mod FilingLaws

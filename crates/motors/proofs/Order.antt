@@ -7,9 +7,9 @@ use mathlib.Core.Logic.{_⊎_, inl, inr}
 use mathlib.Core.Bool.{Bool, true, false}
 use lib.Dec.{eqb, ltb}
 use borrow.Author.Tests.{ltb-true, ltb-false, eqb-true, eqb-false, lt-ltb, le-ltb, eq-eqb, ne-eqb}
-use Rattle.motors.specs.Motor.{motor, zeros, earlierOf, isMotor, isLine, isNode, unreadPart, rightOf, blankOf}
+use Rattle.meaning.specs.Cases.{by-test, passed-both, neither}
+use Rattle.motors.specs.Motor.{motor, zeros, earlierOf, isMotor, isLine, aNode, isNode, unreadPart, rightOf, blankOf}
 use Rattle.motors.specs.declared.motor.Motor.{Motor}
-use Rattle.motors.proofs.Cases.{by-test, both, neither}
 
 -- Line, then NodeID.
 abbrev pub Earlier : Motor → Motor → Type 0
@@ -20,7 +20,7 @@ module _ (x y : Motor) where
   unfolding earlierOf
   as-said e =
       by-test (ltb (x .line) (y .line)) (λ t. inl (ltb-true _ _ t)) λ t.
-      let s = both (eqb (x .line) (y .line)) (ltb (x .node) (y .node)) (rw t at e) in
+      let s = passed-both (eqb (x .line) (y .line)) (ltb (x .node) (y .node)) (rw t at e) in
       inr (eqb-true _ _ (s .0), ltb-true _ _ (s .1))
 
   so-said : Earlier x y → earlierOf x y ≡ true
@@ -32,7 +32,7 @@ module _ (x y : Motor) where
 module _ (x : Motor) (line node : ℕ) where
   pub known : isMotor x line node ≡ true → (x .line ≡ line) × (x .node ≡ node)
   unfolding isMotor
-  known e = let s = both (eqb (x .line) line) (eqb (x .node) node) e in (eqb-true _ _ (s .0), eqb-true _ _ (s .1))
+  known e = let s = passed-both (eqb (x .line) line) (eqb (x .node) node) e in (eqb-true _ _ (s .0), eqb-true _ _ (s .1))
 
   pub by-both : x .line ≡ line → x .node ≡ node → isMotor x line node ≡ true
   unfolding isMotor
@@ -103,9 +103,9 @@ module _ (x m : Motor) (same : isMotor x (m .line) (m .node) ≡ true) where
 pub zeros-first : (m : Motor) → rightOf m ≡ true → earlierOf zeros m ≡ true
 unfolding rightOf isNode
 zeros-first m r =
-    let s = both (isLine (m .line)) _ r in
-    let n = neither (ltb (m .node) 1) _ (both (isNode (m .node)) _ (s .1) .0) in
-    so-said zeros m (by-test (ltb 0 (m .line)) (λ t. inl (ltb-true _ _ t)) (λ t. inr (omega (arith, ltb-false 0 (m .line) t), ltb-false (m .node) 1 (n .0))))
+    let s = passed-both (isLine (m .line)) _ r in
+    let n = aNode (m .node) .is-fact (passed-both (isNode (m .node)) _ (s .1) .0) in
+    so-said zeros m (by-test (ltb 0 (m .line)) (λ t. inl (ltb-true _ _ t)) (λ t. inr (omega (arith, ltb-false 0 (m .line) t), n .0)))
 
 same-fields : {line line′ node node′ pulse pulse′ percent percent′ ip ip′ : ℕ} {r r′ : Bool}
     → line ≡ line′ → node ≡ node′ → r ≡ r′ → pulse ≡ pulse′ → percent ≡ percent′ → ip ≡ ip′
@@ -116,11 +116,11 @@ same-fields a b c d e f = rw (a, b, c, d, e, f)
 pub blank-is-zeros : (m : Motor) → blankOf m ≡ true → m ≡ zeros
 unfolding blankOf unreadPart
 blank-is-zeros m e =
-    let l = both (eqb (m .line) 0) _ e in
-    let n = both (eqb (m .node) 0) _ (l .1) in
+    let l = passed-both (eqb (m .line) 0) _ e in
+    let n = passed-both (eqb (m .node) 0) _ (l .1) in
     let r = neither (m .reading) _ (n .1) in
-    let p = both (eqb (m .pulse) 0) _ (r .1) in
-    let q = both (eqb (m .percent) 0) _ (p .1) in
+    let p = passed-both (eqb (m .pulse) 0) _ (r .1) in
+    let q = passed-both (eqb (m .percent) 0) _ (p .1) in
     all-zeros (eqb-true _ _ (l .0)) (eqb-true _ _ (n .0)) (r .0) (eqb-true _ _ (p .0)) (eqb-true _ _ (q .0)) (eqb-true _ _ (q .1))
   where
     all-zeros : m .line ≡ 0 → m .node ≡ 0 → m .reading ≡ false → m .pulse ≡ 0 → m .percent ≡ 0 → m .ip ≡ 0 → m ≡ zeros

@@ -8,18 +8,13 @@ use mathlib.Core.List.{List, [], _∷_, _++_}
 use mathlib.Core.Option.{some}
 use lib.ListN.{length, getD, drop, replicate, length-take}
 use lib.Seq.{drop-at}
+use Rattle.meaning.specs.Cases.{by-test}
 use Rattle.meaning.specs.Choice.{if_then_else_}
 use Rattle.motors.specs.Motor.{zeros, rightOf, blankOf, isNode, isMotor, earlierOf, unreadPart}
-use Rattle.motors.specs.Register.{held, filled, soundOf, foundIn, found}
+use Rattle.motors.specs.Register.{held, filled, soundOf, foundIn, found, InOrder, Sound, occupied}
 use Rattle.motors.specs.declared.motor.Motor.{Motor}
-use Rattle.motors.proofs.Cases.{by-test}
 use Rattle.motors.proofs.Order.{Earlier, as-said, known, blank-is-zeros, earlier-still}
-use Rattle.motors.proofs.InOrder.{InOrder, Sound, sound-is}
-
--- ---- the count is the number of records held: of places that are not all zeros
-unfoldable pub occupied : List Motor → ℕ
-occupied [] = 0
-occupied (m ∷ l) = if blankOf m then occupied l else suc (occupied l)
+use Rattle.motors.proofs.InOrder.{sound-is}
 
 zeros-wrong : rightOf zeros ≡ false
 unfolding rightOf isNode

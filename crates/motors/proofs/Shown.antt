@@ -3,20 +3,22 @@
 use Prim.Native.Nat.{ℕ}
 use native.Mathlib.Omega.{arith}
 use mathlib.Core.Path.{_≡_, refl, _∙_, sym, ap, subst}
-use mathlib.Core.Bool.{true, not}
+use mathlib.Core.Logic.{_≢_, ⊎-elim}
+use mathlib.Core.Bool.{true}
 use mathlib.Core.List.{List}
-use lib.Dec.{ltb, eqb}
-use borrow.Author.Tests.{eqb-true, eqb-false, not-false}
+use lib.Dec.{eqb}
+use borrow.Author.Tests.{eqb-true, eqb-false, le-leb}
 use Rattle.meaning.specs.Choice.{either}
-use Rattle.frame.specs.Address.{group}
+use Rattle.meaning.specs.Tests.{holds-by}
+use Rattle.meaning.specs.Tables.{Passed, of-decided}
 use Rattle.frame.specs.Layout.{headerOf, dataOf, dataCount, message, source}
 use Rattle.frame.specs.Reading.{readingOf, refusedBy, IsFrame}
 use Rattle.frame.specs.declared.header.Header.{Header}
 use Rattle.frame.specs.declared.reading.Reading.{Reading}
 use Rattle.frame.specs.declared.reading.Reading.the-variants as reading
 use Rattle.frame.proofs.Frames.{frame-exactly-when, frame-is-read}
-use Rattle.motors.specs.Motor.{unread, withReading, isLine, isNode, isReading, unreadPart, rightOf}
-use Rattle.motors.specs.Report.{reported, reportBy, reportOf, pulseIn, percentIn, ipIn}
+use Rattle.motors.specs.Motor.{unread, withReading, isLine, aNode, isNode, aReading, isReading, unreadPart, rightOf}
+use Rattle.motors.specs.Report.{reportTable, shownBy, reported, reportBy, reportOf, pulseIn, percentIn, ipIn}
 use Rattle.motors.specs.declared.motor.Motor.{Motor}
 use Rattle.motors.specs.declared.report.Report.{Report}
 use Rattle.motors.specs.declared.report.Report.the-variants.{Seen, Refused}
@@ -43,30 +45,41 @@ IfSeen line h d (Seen m) = Shown line h d m
 IfSeen line h d (Refused r) = Unit {0}
 
 module _ (line : ℕ) (h : Header) (count : ℕ) (d : List ℕ) where
-  shown : IfSeen line h d (reported line h count d)
-  unfolding reported
-  shown =
-      either (IfSeen line h d) (not (isLine line)) (λ t. tt) λ l.
-      either (IfSeen line h d) (not (isNode (h .source .0))) (λ t. tt) λ n.
-      either (IfSeen line h d) (eqb (h .destination .0) (group .0)) (λ t. tt) λ g.
-      either (IfSeen line h d) (eqb (h .message) 0x60)
+  -- The two messages that show a motor.
+  shown-by : Passed (reportTable line h count d) → Shown line h d (shownBy line h d)
+  unfolding isNode isReading
+  shown-by (few, (sender, (named, (right, end)))) =
+      either (Shown line h d) (eqb (h .message) 0x60)
       (λ t. record {
-        right = unread-right line (h .source .0) (not-false _ l) (not-false _ n);
+        right = unread-right line (h .source .0) l n;
         on-its-line = refl;
         of-the-sender = refl;
         by-60h = λ e. refl;
         by-0Dh = λ e. absurd (omega (arith, eqb-true (h .message) 0x60 t, e));
-      }) λ a.
-      either (IfSeen line h d) (not (eqb (h .message) 0x0D)) (λ t. tt) λ p.
-      either (IfSeen line h d) (ltb count 5) (λ t. tt) λ s.
-      either (IfSeen line h d) (not (isReading (percentIn d) (ipIn d))) (λ t. tt) λ r.
-      record {
-        right = reading-right line (h .source .0) (pulseIn d) (percentIn d) (ipIn d) (not-false _ l) (not-false _ n) (not-false _ r);
+      })
+      (λ t. record {
+        right = reading-right line (h .source .0) (pulseIn d) (percentIn d) (ipIn d) l n (r (position (eqb-false (h .message) 0x60 t)));
         on-its-line = refl;
         of-the-sender = refl;
-        by-60h = λ e. absurd (eqb-false (h .message) 0x60 a e);
+        by-60h = λ e. absurd (eqb-false (h .message) 0x60 t e);
         by-0Dh = λ e. refl;
-      }
+      })
+    where
+      l : isLine line ≡ true
+      l = le-leb line 3 few
+
+      n : isNode (h .source .0) ≡ true
+      n = holds-by (aNode (h .source .0)) (sender .0)
+
+      position : h .message ≢ 0x60 → h .message ≡ 0x0D
+      position other = ⊎-elim (λ e. absurd (other e)) (λ e. e) named
+
+      r : h .message ≡ 0x0D → isReading (percentIn d) (ipIn d) ≡ true
+      r e = ⊎-elim (λ other. absurd (other e)) (λ x. holds-by (aReading (percentIn d) (ipIn d)) (x .1)) right
+
+  shown : IfSeen line h d (reported line h count d)
+  unfolding reported
+  shown = of-decided (IfSeen line h d) (reportTable line h count d) (Seen (shownBy line h d)) (search) shown-by
 
 -- A bundle that shows a motor is a frame.
 module _ (line : ℕ) (b : List ℕ) where

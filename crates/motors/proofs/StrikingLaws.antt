@@ -4,17 +4,16 @@ use Prim.Native.Nat.{ℕ, suc, _≤_, _<_}
 use native.Mathlib.Omega.{arith}
 use mathlib.Core.Path.{_≡_, refl, _∙_, ap, ap₂, subst}
 use mathlib.Core.Logic.{_≢_}
-use mathlib.Core.Bool.{true, not}
+use mathlib.Core.Bool.{true}
 use mathlib.Core.List.{List}
 use mathlib.Core.Option.{none}
 use lib.ListN.{length}
-use borrow.Author.Tests.{not-false, le-leb}
-use Rattle.meaning.specs.Choice.{either}
+use Rattle.meaning.specs.Tables.{of-decided}
 use Rattle.refusal.specs.declared.Refusal.{Refusal}
-use Rattle.motors.specs.Motor.{zeros, isLine}
+use Rattle.motors.specs.Motor.{zeros}
 use Rattle.motors.specs.Register.{held, filled, soundOf, foundIn, found}
 use Rattle.motors.specs.Report.{reportOf}
-use Rattle.motors.specs.Filing.{without, isSome, struckOf, filedOf, enteredOf, entered}
+use Rattle.motors.specs.Filing.{keeping, without, isSome, strikeTable, struckOf, filedOf, enteredOf, entered, countAfter}
 use Rattle.motors.specs.declared.answer.Answer.{Answer}
 use Rattle.motors.specs.declared.answer.Answer.the-variants.{Count, Refused}
 use Rattle.motors.specs.declared.answer.Next.{Next}
@@ -23,8 +22,8 @@ use Rattle.motors.specs.declared.report.Report.the-variants as report
 use Rattle.motors.proofs.InOrder.{sound-is, is-sound}
 use Rattle.motors.proofs.Held.{struck-another, struck-itself, struck-in-order, struck-number, entered-at-most-one-more}
 use Rattle.motors.proofs.Register.{length-held}
-use Rattle.motors.proofs.FilingRows.{as-reported}
-use Rattle.motors.proofs.FilingLaws.{held-again, countAfter}
+use Rattle.motors.proofs.Rows.{entered-by, as-reported}
+use Rattle.motors.proofs.FilingLaws.{held-again}
 
 module _ (run : List Motor) (count line node : ℕ) where
   -- A motor that is struck out: the register was sound and held it.
@@ -44,10 +43,7 @@ module _ (run : List Motor) (count line node : ℕ) where
   struck-as : As (struckOf run count line node)
   unfolding struckOf
   struck-as =
-      either As (not (soundOf run count)) (λ t. refl) λ s.
-      either As (not (isLine line)) (λ t. refl) λ l.
-      either As (not (isSome (found run count line node))) (λ t. refl) λ h.
-      record { ok = not-false _ s; was-held = not-false _ h; places = refl; number = refl }
+      of-decided As (strikeTable run count line node) (keeping (without (held run count) line node)) (search) (λ facts. search)
 
   abbrev after : Next
   after = struckOf run count line node
@@ -97,10 +93,9 @@ module _ (run : List Motor) (count line node : ℕ) where
 -- With room for one more, whatever a frame reports is entered.
 module _ (run : List Motor) (count line : ℕ) (b : List ℕ) (ok : soundOf run count ≡ true) (room : count < 256) where
   with-room : (m : Motor) → enteredOf run count m .answer ≡ Count (length (entered (held run count) m))
-  unfolding enteredOf
   with-room m =
-      rw (le-leb (length (entered (held run count) m)) 256
-      (omega (arith, entered-at-most-one-more (held run count) m .1, length-held run count ok)))
+      ap (λ (x : Next). x .answer)
+      (entered-by run count m 1 (omega (arith, entered-at-most-one-more (held run count) m .1, length-held run count ok), tt))
 
   pub a-motor-reported-gets-a-place : (m : Motor) → reportOf line b ≡ report.Seen m
       → filedOf run count line b .answer ≡ Count (length (entered (held run count) m))

@@ -8,6 +8,7 @@ use mathlib.Core.List.{List, [], _∷_}
 use lib.Dec.{eqb, leb, ltb}
 use lib.ListN.{length, getD, take}
 use borrow.Author.Tests.{ltb-true, ltb-false, lt-ltb, le-ltb, le-leb, lt-leb}
+use Rattle.meaning.specs.Cases.{by-test}
 use Rattle.meaning.specs.Choice.{if_then_else_}
 use Rattle.motors.specs.Motor.{zeros, earlierOf, isMotor}
 use Rattle.motors.specs.Register.{places, soundFrom, soundOf, standsOf}
@@ -15,7 +16,6 @@ use Rattle.motors.specs.Survey.{survey, begun, soundAfter, past, passed,
 use Rattle.motors.specs.declared.motor.Motor.{Motor}
 use Rattle.motors.specs.declared.survey.Survey.{Survey}
 use Rattle.motors.proofs.Gaps.{placeOf}
-use Rattle.motors.proofs.Cases.{by-test}
 use Rattle.motors.proofs.AtPlaces.{place-past, place-here}
 
 module _ (m : Motor) (count : ℕ) where
@@ -37,7 +37,8 @@ module _ (m : Motor) (count : ℕ) where
       unfolding past
       earlier-here c e = rw (not-yet, lt-leb count at c, e)
 
-      pub first-here : at < count → earlierOf x m ≡ false → past s m x at count ≡ survey (soundAfter s x (ltb at count)) x at (isMotor x (m .line) (m .node))
+      pub first-here : at < count → earlierOf x m ≡ false
+          → past s m x at count ≡ survey (soundAfter s x (ltb at count)) x at (isMotor x (m .line) (m .node))
       unfolding past
       first-here c e = rw (not-yet, lt-leb count at c, e)
 
@@ -87,7 +88,8 @@ module _ (m : Motor) (count : ℕ) where
       sound-on 0 (begun (length run) count) run ∙ rw all (chosen (eqb (length run) 256) (leb count 256) (soundFrom zeros count run))
 
   -- ---- the place
-  stays : (at : ℕ) (s : Survey) (l : List Motor) → s .place < 256 → (passed m count at s l .place ≡ s .place) × (passed m count at s l .held ≡ s .held)
+  stays : (at : ℕ) (s : Survey) (l : List Motor) → s .place < 256
+      → (passed m count at s l .place ≡ s .place) × (passed m count at s l .held ≡ s .held)
   unfolding passed
   stays at s [] h = (refl, refl)
   stays at s (x ∷ l) h =

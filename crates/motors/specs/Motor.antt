@@ -1,9 +1,13 @@
--- A motor's record, the order of records, and what its fields may hold (document 01, "The register", rows 20, 21 and 23).
+-- A motor's record, the order of records, and what its fields may hold (document 01, "The register", rows 20, 21 and
+-- 23).
 -- Assumes nothing.
 use Prim.Native.Nat.{ℕ}
 use mathlib.Core.Bool.{Bool, true, false}
 use lib.Dec.{leb, ltb, eqb}
 use Rattle.meaning.specs.Choice.{if_then_else_}
+use Rattle.meaning.specs.Tests.{Test, _at-most_, _is_, _or_, _and_}
+use Rattle.frame.specs.Address.{address, aNodeID}
+use Rattle.travel.specs.Units.{anIp}
 use Rattle.motors.specs.declared.motor.Motor.{Motor}
 
 abbrev pub motor : ℕ → ℕ → Bool → ℕ → ℕ → ℕ → Motor
@@ -36,17 +40,19 @@ isMotor m line node = if eqb (m .line) line then eqb (m .node) node else false
 abbrev pub isLine : ℕ → Bool
 isLine line = leb line 3
 
--- Row 21: NodeIDs 000001h to FFFEFFh.
-unfoldable pub isNode : ℕ → Bool
-isNode node = if ltb node 0x000001 then false else leb node 0xFFFEFF
+-- Row 21: a NodeID.
+abbrev pub aNode : ℕ → Test
+aNode node = aNodeID (address node)
 
--- Row 23: percent 0 to 100, IP 1 to 16 or FFh.
+unfoldable pub isNode : ℕ → Bool
+isNode node = aNode node .holds
+
+-- Row 23: percent 0 to 100, IP FFh or 1 to 16.
+abbrev pub aReading : ℕ → ℕ → Test
+aReading percent ip = percent at-most 100 and (ip is 0xFF or anIp ip)
+
 unfoldable pub isReading : ℕ → ℕ → Bool
-isReading percent ip =
-    if ltb 100 percent then false else
-    if eqb ip 0xFF then true else
-    if ltb ip 1 then false else
-    leb ip 16
+isReading percent ip = aReading percent ip .holds
 
 -- Without a reading that part is zeros.
 unfoldable pub unreadPart : Motor → Bool

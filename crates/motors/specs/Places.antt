@@ -8,7 +8,8 @@ use Rattle.meaning.specs.Choice.{if_then_else_}
 use Rattle.motors.specs.Motor.{zeros}
 use Rattle.motors.specs.declared.motor.Motor.{Motor}
 
--- A motor put in at a place, and the record there at the next, over so many places: what the last one held is carried out.
+-- A motor put in at a place, and the record there at the next, over so many places: what the last one held is carried
+-- out.
 unfoldable pub carriedUp : List Motor → (at n : ℕ) → Motor → List Motor
 carriedUp run at zero m = run
 carriedUp run at (suc n) m = carriedUp (set run at m) (suc at) n (getD run at zeros)

@@ -1,13 +1,14 @@
 -- The register: a run of places with a count (document 01, "The register", row 19).
 -- Assumes nothing.
-use Prim.Native.Nat.{ℕ, _-_}
+use Prim.Native.Nat.{ℕ, suc, _-_, _≤_}
+use mathlib.Core.Path.{_≡_}
 use mathlib.Core.Bool.{Bool, true, false}
 use mathlib.Core.List.{List, [], _∷_, _++_}
 use mathlib.Core.Option.{Option, none, some}
 use lib.Dec.{leb, ltb, eqb}
 use lib.ListN.{length, take, replicate}
 use Rattle.meaning.specs.Choice.{if_then_else_}
-use Rattle.motors.specs.Motor.{zeros, blankOf, followsOf, isMotor}
+use Rattle.motors.specs.Motor.{zeros, rightOf, earlierOf, blankOf, followsOf, isMotor}
 use Rattle.motors.specs.declared.motor.Motor.{Motor}
 
 abbrev pub places : ℕ
@@ -44,3 +45,20 @@ foundIn (m ∷ l) line node = if isMotor m line node then some m else foundIn l 
 
 abbrev pub found : List Motor → ℕ → ℕ → ℕ → Option Motor
 found run count line node = foundIn (held run count) line node
+
+-- Records that are right and strictly ascending behind `previous`.
+abbrev pub InOrder : Motor → List Motor → Type 0
+InOrder previous [] = Unit {0}
+InOrder previous (m ∷ l) = (rightOf m ≡ true) × (earlierOf previous m ≡ true) × InOrder m l
+
+-- Row 19 as facts.
+pub record Sound (run : List Motor) (count : ℕ) : Type 0 where
+  pub of-256-places : length run ≡ 256
+  pub at-most-256 : count ≤ 256
+  pub in-order : InOrder zeros (take count run)
+  pub zeros-behind : run ≡ filled (take count run)
+
+-- The number of records held: of places that are not all zeros.
+unfoldable pub occupied : List Motor → ℕ
+occupied [] = 0
+occupied (m ∷ l) = if blankOf m then occupied l else suc (occupied l)

@@ -1,4 +1,5 @@
 // A motor's record: its line, its NodeID and its last reading. A place that holds none is all zeros.
+use frame::Address;
 ghost use mathlib.Core.Path.{_≡_};
 ghost use Rattle.motors.specs.Motor.{unread, earlierOf, isMotor, isLine, isNode, isReading, unreadPart, rightOf, blankOf, followsOf};
 
@@ -63,10 +64,8 @@ pub(crate) fn is_line(line: u8) -> bool
 pub(crate) fn is_node(node: u32) -> bool
     ensures { λ r. ⌜ r ≡ isNode node ⌝ }
 {
-    if node < 1 {
-        return false;
-    }
-    node <= 0xFF_FEFF
+    let address = Address(node);
+    address.is_node_id()
 }
 
 // Row 23: percent 0 to 100, IP 1 to 16 or FFh.

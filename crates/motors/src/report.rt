@@ -8,7 +8,6 @@ use frame::Header;
 use frame::Reading;
 use refusal::Refusal;
 ghost use mathlib.Core.Path.{_≡_};
-ghost use Prim.Native.Nat.{_+_, _*_};
 ghost use Rattle.frame.specs.Layout.{dataOf};
 ghost use Rattle.motors.specs.Report.{reportOf, reported};
 
@@ -68,15 +67,8 @@ fn framed(line: u8, header: Header, count: usize, bundle: &[u8]) -> Report
         line: line,
         node: node,
         reading: true,
-        pulse: pair(frame::data_byte(bundle, 0), frame::data_byte(bundle, 1)),
+        pulse: frame::word(frame::data_byte(bundle, 0), frame::data_byte(bundle, 1)),
         percent: percent,
         ip: ip,
     })
-}
-
-// Two bytes as one number, the low byte first.
-fn pair(low: u8, high: u8) -> u16
-    ensures { λ r. ⌜ r ≡ low + 256 * high ⌝ }
-{
-    low as u16 + 256 * (high as u16)
 }

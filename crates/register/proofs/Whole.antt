@@ -7,17 +7,17 @@ use mathlib.Core.List.{List}
 use lib.Dec.{T as Holds, eqb, eqb→eq, T-not}
 use lib.ListN.{length, replicate}
 use borrow.Author.Tests.{eq-eqb, ne-eqb, eqb-true, eqb-false}
+use Rattle.meaning.specs.Cases.{by-test}
 use Rattle.refusal.specs.declared.Refusal.{Refusal}
 use Rattle.motors.specs.Motor.{zeros}
 use Rattle.motors.specs.Register.{soundOf}
 use Rattle.motors.specs.Filing.{refusing}
 use Rattle.motors.specs.declared.answer.Next.{Next}
 use Rattle.motors.specs.declared.motor.Motor.{Motor}
-use Rattle.motors.proofs.Cases.{by-test}
 use Rattle.form.specs.Reading.{readOf}
 use Rattle.form.specs.Writing.{writtenOf, laid, bufferAfter}
 use Rattle.form.specs.declared.writing.Written.{Written}
-use Rattle.form.proofs.FormRows as form
+use Rattle.form.proofs.Rows as form
 use Rattle.register.specs.Run.{copyOf, storedOf, ofPlaces, writtenIn, bufferIn}
 
 -- ---- the test's two outcomes
@@ -76,14 +76,14 @@ unfolding soundOf
 never-sound run count n = rw (ne-eqb (length run) 256 n)
 
 pub reading-refuses : (b : List ℕ) (run : List Motor) → (length run ≡ 256 → ⊥) → readOf run b ≡ refusing run Refusal.BrokenRegister
-reading-refuses b run n = form.row-19 run b n
+reading-refuses b run n = sym (form.read-by run b 0 n)
 
 pub written-alike : (run : List Motor) (count room : ℕ) → writtenIn (length run) (copyOf run) count room ≡ writtenOf run count room
 unfolding writtenIn
 written-alike run count room =
     by-test (eqb (length run) 256)
     (λ t. rw (t, copied run (eqb-true (length run) 256 t)))
-    (λ t. rw t (sym (form.row-19-writing run count room (never-sound run count (eqb-false (length run) 256 t)))))
+    (λ t. rw t (sym (form.written-by run count room 0 (never-sound run count (eqb-false (length run) 256 t)))))
 
 pub buffer-alike : (run : List Motor) (count : ℕ) (buffer : List ℕ) → bufferIn (length run) (copyOf run) count buffer ≡ bufferAfter run count buffer
 unfolding bufferIn
@@ -91,4 +91,4 @@ buffer-alike run count buffer =
     by-test (eqb (length run) 256)
     (λ t. rw (t, copied run (eqb-true (length run) 256 t)))
     (λ t. rw t
-    (sym (ap (λ (w : Written). laid w run count buffer) (form.row-19-writing run count (length buffer) (never-sound run count (eqb-false (length run) 256 t))))))
+    (sym (ap (λ (w : Written). laid w run count buffer) (form.written-by run count (length buffer) 0 (never-sound run count (eqb-false (length run) 256 t))))))

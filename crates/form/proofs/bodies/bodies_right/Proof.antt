@@ -23,33 +23,12 @@ loop-holds c = let x = c .before .args in
     let place : 3 + 6 * x .count + 5 * 0 ≡ 3 + 6 * x .count = omega arith in
     (omega arith, rw (place, sub-zero))
 
-mul-body-right : tie.Need-mul-body-right Inv-loop μ-loop
-mul-body-right c = search needs
-
-add-body-right : tie.Need-add-body-right Inv-loop μ-loop
-add-body-right c = search needs
-
-mul-body-right-2 : tie.Need-mul-body-right-2 Inv-loop μ-loop
-mul-body-right-2 c = search needs
-
-add-body-right-2 : tie.Need-add-body-right-2 Inv-loop μ-loop
-add-body-right-2 c = search needs
-
-body-right-requires : tie.Need-body-right-requires Inv-loop μ-loop
-body-right-requires c κs = search needs
-
 returns : tie.Need-returns Inv-loop μ-loop
 returns c = let k = c .before .before .before in
     let x = k .before .before .args in
     sym (sym (k .loop .inv .1)
     ∙ bodies-off (x .bytes .now) (3 + 6 * x .count) (x .count) (k .loop .i) (c .before .before .loop-test .taken)
     (sym (c .before .body-right .ensures) ∙ not-true _ (c .if1 .taken)))
-
-add-i : tie.Need-add-i Inv-loop μ-loop
-add-i c = search needs
-
-loop-less : tie.Need-loop-less Inv-loop μ-loop
-loop-less c = search needs
 
 loop-again : tie.Need-loop-again Inv-loop μ-loop
 loop-again c = let k = c .before .before .before in
@@ -72,13 +51,13 @@ bodies-right-spec =
     Inv-loop
     μ-loop
     loop-holds
-    mul-body-right
-    add-body-right
-    mul-body-right-2
-    add-body-right-2
-    body-right-requires
+    (λ c. search needs)
+    (λ c. search needs)
+    (λ c. search needs)
+    (λ c. search needs)
+    (λ c κs. search needs)
     returns
-    add-i
-    loop-less
+    (λ c. search needs)
+    (λ c. search needs)
     loop-again
     returns-2)

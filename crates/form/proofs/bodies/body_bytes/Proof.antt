@@ -8,17 +8,8 @@ use Rattle.form.proofs.bodies.body_bytes.Tie as tie
 returns : tie.Need-returns
 returns c = rw (not-true (c .before .before .args .motor .reading) (c .if1 .taken))
 
-cast-pulse : tie.Need-cast-pulse
-cast-pulse c = search needs
-
-low-requires : tie.Need-low-requires
-low-requires c κs = search needs
-
-high-requires : tie.Need-high-requires
-high-requires c κs = search needs
-
 returns-2 : tie.Need-returns-2
 returns-2 c = rw (not-false (c .before .before .before .before .before .args .motor .reading) (c .before .before .before .if1 .left), c .before .low .ensures, c .high .ensures)
 
 pub body-bytes-spec : {M : Type 1} → statement M
-body-bytes-spec = tie.close (tie.spec returns cast-pulse low-requires high-requires returns-2)
+body-bytes-spec = tie.close (tie.spec returns (λ c. search needs) (λ c κs. search needs) (λ c κs. search needs) returns-2)

@@ -23,39 +23,6 @@ loop-holds : tie.Need-loop-holds Inv-loop μ-loop
 unfolding bodiesOf
 loop-holds c = (omega arith, refl, refl)
 
-mul-at : tie.Need-mul-at Inv-loop μ-loop
-mul-at c = search needs
-
-mul-body-bytes : tie.Need-mul-body-bytes Inv-loop μ-loop
-mul-body-bytes c = search needs
-
-array-copy-out-body-bytes : tie.Need-array-copy-out-body-bytes Inv-loop μ-loop
-array-copy-out-body-bytes c = search needs
-
-body-bytes-requires : tie.Need-body-bytes-requires Inv-loop μ-loop
-body-bytes-requires c κs = search needs
-
-sub-put : tie.Need-sub-put Inv-loop μ-loop
-sub-put c = search needs
-
-part-put-start : tie.Need-part-put-start Inv-loop μ-loop
-part-put-start c = search needs
-
-part-put-end : tie.Need-part-put-end Inv-loop μ-loop
-part-put-end c = search needs
-
-slice-aggregate-put : tie.Need-slice-aggregate-put Inv-loop μ-loop
-slice-aggregate-put c = search needs
-
-put-requires : tie.Need-put-requires Inv-loop μ-loop
-put-requires c κs = search needs
-
-add-i : tie.Need-add-i Inv-loop μ-loop
-add-i c = search needs
-
-loop-less : tie.Need-loop-less Inv-loop μ-loop
-loop-less c = search needs
-
 loop-again : tie.Need-loop-again Inv-loop μ-loop
 loop-again c = let k = c .before .before .before .before .before .before .before .before in
     let s = k .before .before in
@@ -65,9 +32,6 @@ loop-again c = let k = c .before .before .before .before .before .before .before
     (x .part .now) (k .loop .part) (c .before .before .put .last .0) (c .before .before .before .before .before .body-bytes .result)
     (s .pre .1) (c .before .before .before .before .before .body-bytes .ensures) (k .loop .inv .2) (c .before .before .put .ensures) in
     (omega arith, on .0, on .1)
-
-same-length : tie.Need-same-length Inv-loop μ-loop
-same-length c = search needs
 
 returns : tie.Need-returns Inv-loop μ-loop
 returns c = let k = c .before in
@@ -82,17 +46,17 @@ lay-bodies-spec =
     Inv-loop
     μ-loop
     loop-holds
-    mul-at
-    mul-body-bytes
-    array-copy-out-body-bytes
-    body-bytes-requires
-    sub-put
-    part-put-start
-    part-put-end
-    slice-aggregate-put
-    put-requires
-    add-i
-    loop-less
+    (λ c. search needs)
+    (λ c. search needs)
+    (λ c. search needs)
+    (λ c κs. search needs)
+    (λ c. search needs)
+    (λ c. search needs)
+    (λ c. search needs)
+    (λ c. search needs)
+    (λ c κs. search needs)
+    (λ c. search needs)
+    (λ c. search needs)
     loop-again
-    same-length
+    (λ c. search needs)
     returns)

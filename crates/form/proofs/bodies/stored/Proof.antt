@@ -17,46 +17,13 @@ Inv-loop bytes count all₀ i₀ all i = (i ≤ count) × Edited all₀ (filled 
 abbrev μ-loop : tie.MeasureT-loop
 μ-loop bytes count all₀ i₀ all i = count - i
 
-unread-requires : tie.Need-unread-requires Inv-loop μ-loop
-unread-requires c κs = search needs
-
 loop-holds : tie.Need-loop-holds Inv-loop μ-loop
 loop-holds c = let s = c .before .before in
     let x = s .args in
     (omega arith, filling (x .bytes .now) (3 + 6 * x .count) (x .count) (s .pre .0) (c .unread .result) (c .unread .ensures))
 
-mul-motor : tie.Need-mul-motor Inv-loop μ-loop
-mul-motor c = search needs
-
-add-motor : tie.Need-add-motor Inv-loop μ-loop
-add-motor c = search needs
-
-mul-motor-2 : tie.Need-mul-motor-2 Inv-loop μ-loop
-mul-motor-2 c = search needs
-
-add-motor-2 : tie.Need-add-motor-2 Inv-loop μ-loop
-add-motor-2 c = search needs
-
-mul-motor-3 : tie.Need-mul-motor-3 Inv-loop μ-loop
-mul-motor-3 c = search needs
-
-add-motor-3 : tie.Need-add-motor-3 Inv-loop μ-loop
-add-motor-3 c = search needs
-
-motor-requires : tie.Need-motor-requires Inv-loop μ-loop
-motor-requires c κs = search needs
-
-mul-all : tie.Need-mul-all Inv-loop μ-loop
-mul-all c = search needs
-
 array-set-from-all : tie.Need-array-set-from-all Inv-loop μ-loop
 array-set-from-all c = omega (arith, c .before .before .loop .inv .1 .long, c .before .before .before .before .before .pre .0)
-
-add-i : tie.Need-add-i Inv-loop μ-loop
-add-i c = search needs
-
-loop-less : tie.Need-loop-less Inv-loop μ-loop
-loop-less c = search needs
 
 loop-again : tie.Need-loop-again Inv-loop μ-loop
 loop-again c = let k = c .before .before in
@@ -80,18 +47,18 @@ stored-spec =
     (tie.spec
     Inv-loop
     μ-loop
-    unread-requires
+    (λ c κs. search needs)
     loop-holds
-    mul-motor
-    add-motor
-    mul-motor-2
-    add-motor-2
-    mul-motor-3
-    add-motor-3
-    motor-requires
-    mul-all
+    (λ c. search needs)
+    (λ c. search needs)
+    (λ c. search needs)
+    (λ c. search needs)
+    (λ c. search needs)
+    (λ c. search needs)
+    (λ c κs. search needs)
+    (λ c. search needs)
     array-set-from-all
-    add-i
-    loop-less
+    (λ c. search needs)
+    (λ c. search needs)
     loop-again
     returns)

@@ -21,34 +21,10 @@ Inv-loop bytes count previous₀ i₀ previous i = (i ≤ count)
 abbrev μ-loop : tie.MeasureT-loop
 μ-loop bytes count previous₀ i₀ previous i = count - i
 
-unread-requires : tie.Need-unread-requires Inv-loop μ-loop
-unread-requires c κs = search needs
-
 loop-holds : tie.Need-loop-holds Inv-loop μ-loop
 loop-holds c = let x = c .before .before .args in
     let place : 3 + 6 * x .count + 5 * 0 ≡ 3 + 6 * x .count = omega arith in
     (omega arith, rw (place, sub-zero, c .unread .ensures))
-
-mul-entry-right : tie.Need-mul-entry-right Inv-loop μ-loop
-mul-entry-right c = search needs
-
-add-entry-right : tie.Need-add-entry-right Inv-loop μ-loop
-add-entry-right c = search needs
-
-mul-entry-right-2 : tie.Need-mul-entry-right-2 Inv-loop μ-loop
-mul-entry-right-2 c = search needs
-
-add-entry-right-2 : tie.Need-add-entry-right-2 Inv-loop μ-loop
-add-entry-right-2 c = search needs
-
-mul-entry-right-3 : tie.Need-mul-entry-right-3 Inv-loop μ-loop
-mul-entry-right-3 c = search needs
-
-add-entry-right-3 : tie.Need-add-entry-right-3 Inv-loop μ-loop
-add-entry-right-3 c = search needs
-
-entry-right-requires : tie.Need-entry-right-requires Inv-loop μ-loop
-entry-right-requires c κs = search needs
 
 returns : tie.Need-returns Inv-loop μ-loop
 returns c = let k = c .before .before .before in
@@ -56,21 +32,6 @@ returns c = let k = c .before .before .before in
     sym (sym (k .loop .inv .1)
     ∙ contents-off (x .bytes .now) (3 + 6 * x .count) (x .count) (k .loop .i) (c .before .before .loop-test .taken) (k .loop .previous)
     (sym (c .before .entry-right .ensures) ∙ not-true _ (c .if1 .taken)))
-
-mul-entry : tie.Need-mul-entry Inv-loop μ-loop
-mul-entry c = search needs
-
-add-entry : tie.Need-add-entry Inv-loop μ-loop
-add-entry c = search needs
-
-entry-requires : tie.Need-entry-requires Inv-loop μ-loop
-entry-requires c κs = search needs
-
-add-i : tie.Need-add-i Inv-loop μ-loop
-add-i c = search needs
-
-loop-less : tie.Need-loop-less Inv-loop μ-loop
-loop-less c = search needs
 
 loop-again : tie.Need-loop-again Inv-loop μ-loop
 loop-again c = let k = c .before .before .before .before in
@@ -95,20 +56,20 @@ contents-right-spec =
     (tie.spec
     Inv-loop
     μ-loop
-    unread-requires
+    (λ c κs. search needs)
     loop-holds
-    mul-entry-right
-    add-entry-right
-    mul-entry-right-2
-    add-entry-right-2
-    mul-entry-right-3
-    add-entry-right-3
-    entry-right-requires
+    (λ c. search needs)
+    (λ c. search needs)
+    (λ c. search needs)
+    (λ c. search needs)
+    (λ c. search needs)
+    (λ c. search needs)
+    (λ c κs. search needs)
     returns
-    mul-entry
-    add-entry
-    entry-requires
-    add-i
-    loop-less
+    (λ c. search needs)
+    (λ c. search needs)
+    (λ c κs. search needs)
+    (λ c. search needs)
+    (λ c. search needs)
     loop-again
     returns-2)

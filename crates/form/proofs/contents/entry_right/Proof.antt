@@ -7,32 +7,11 @@ use borrow.Author.Needs.{needs}
 use Rattle.form.proofs.contents.entry_right.Statement.{statement}
 use Rattle.form.proofs.contents.entry_right.Tie as tie
 
-entry-requires : tie.Need-entry-requires
-entry-requires c κs = search needs
-
-follows-requires : tie.Need-follows-requires
-follows-requires c κs = search needs
-
 returns : tie.Need-returns
 returns c = let x = c .before .before .before .before .args in
     let read = c .before .before .entry in
     sym (entry-wrong (x .bytes .now) (x .at) (x .previous) (x .place) (read .result) (read .ensures)
     (sym (c .before .follows .ensures) ∙ not-true _ (c .if1 .taken)))
-
-add-pair : tie.Need-add-pair
-add-pair c = search needs
-
-shared-slice-read-pair : tie.Need-shared-slice-read-pair
-shared-slice-read-pair c = search needs
-
-add-pair-2 : tie.Need-add-pair-2
-add-pair-2 c = search needs
-
-shared-slice-read-pair-2 : tie.Need-shared-slice-read-pair-2
-shared-slice-read-pair-2 c = search needs
-
-pair-requires : tie.Need-pair-requires
-pair-requires c κs = search needs
 
 returns-2 : tie.Need-returns-2
 returns-2 c = let x = c .before .before .before .before .before .before .before .args in
@@ -45,12 +24,12 @@ pub entry-right-spec : {M : Type 1} → statement M
 entry-right-spec =
     tie.close
     (tie.spec
-    entry-requires
-    follows-requires
+    (λ c κs. search needs)
+    (λ c κs. search needs)
     returns
-    add-pair
-    shared-slice-read-pair
-    add-pair-2
-    shared-slice-read-pair-2
-    pair-requires
+    (λ c. search needs)
+    (λ c. search needs)
+    (λ c. search needs)
+    (λ c. search needs)
+    (λ c κs. search needs)
     returns-2)

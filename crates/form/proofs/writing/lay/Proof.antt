@@ -10,51 +10,6 @@ use borrow.Author.Needs.{needs}
 use Rattle.form.proofs.writing.lay.Statement.{statement}
 use Rattle.form.proofs.writing.lay.Tie as tie
 
-low-requires : tie.Need-low-requires
-low-requires c κs = search needs
-
-high-requires : tie.Need-high-requires
-high-requires c κs = search needs
-
-slice-aggregate-put : tie.Need-slice-aggregate-put
-slice-aggregate-put c = search needs
-
-put-requires : tie.Need-put-requires
-put-requires c κs = search needs
-
-sub-lay-contents : tie.Need-sub-lay-contents
-sub-lay-contents c = search needs
-
-part-lay-contents-start : tie.Need-part-lay-contents-start
-part-lay-contents-start c = search needs
-
-part-lay-contents-end : tie.Need-part-lay-contents-end
-part-lay-contents-end c = search needs
-
-lay-contents-requires : tie.Need-lay-contents-requires
-lay-contents-requires c κs = search needs
-
-mul-bodies : tie.Need-mul-bodies
-mul-bodies c = search needs
-
-add-bodies : tie.Need-add-bodies
-add-bodies c = search needs
-
-sub-lay-bodies : tie.Need-sub-lay-bodies
-sub-lay-bodies c = search needs
-
-part-lay-bodies-start : tie.Need-part-lay-bodies-start
-part-lay-bodies-start c = search needs
-
-part-lay-bodies-end : tie.Need-part-lay-bodies-end
-part-lay-bodies-end c = search needs
-
-lay-bodies-requires : tie.Need-lay-bodies-requires
-lay-bodies-requires c κs = search needs
-
-same-length : tie.Need-same-length
-same-length c = search needs
-
 returns : tie.Need-returns
 returns c = let contents = c .before .before .before .before .before .before in
     let put = contents .before .before .before .before in
@@ -71,19 +26,19 @@ pub lay-spec : {M : Type 1} → statement M
 lay-spec =
     tie.close
     (tie.spec
-    low-requires
-    high-requires
-    slice-aggregate-put
-    put-requires
-    sub-lay-contents
-    part-lay-contents-start
-    part-lay-contents-end
-    lay-contents-requires
-    mul-bodies
-    add-bodies
-    sub-lay-bodies
-    part-lay-bodies-start
-    part-lay-bodies-end
-    lay-bodies-requires
-    same-length
+    (λ c κs. search needs)
+    (λ c κs. search needs)
+    (λ c. search needs)
+    (λ c κs. search needs)
+    (λ c. search needs)
+    (λ c. search needs)
+    (λ c. search needs)
+    (λ c κs. search needs)
+    (λ c. search needs)
+    (λ c. search needs)
+    (λ c. search needs)
+    (λ c. search needs)
+    (λ c. search needs)
+    (λ c κs. search needs)
+    (λ c. search needs)
     returns)

@@ -4,11 +4,8 @@ use borrow.Author.Needs.{needs}
 use Rattle.motors.proofs.edit.leaving.Statement.{statement}
 use Rattle.motors.proofs.edit.leaving.Tie as tie
 
-unread-requires : tie.Need-unread-requires
-unread-requires c κs = search needs
-
 returns : tie.Need-returns
 returns c = rw (c .unread .ensures)
 
 pub leaving-spec : {M : Type 1} → statement M
-leaving-spec = tie.close (tie.spec unread-requires returns)
+leaving-spec = tie.close (tie.spec (λ c κs. search needs) returns)

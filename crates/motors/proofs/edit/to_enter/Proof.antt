@@ -6,9 +6,6 @@ use Rattle.motors.specs.Edit.{toEnter}
 use Rattle.motors.proofs.edit.to_enter.Statement.{statement}
 use Rattle.motors.proofs.edit.to_enter.Tie as tie
 
-leaving-requires : tie.Need-leaving-requires
-leaving-requires c κs = search needs
-
 returns : tie.Need-returns
 unfolding toEnter
 returns c = rw (c .before .before .before .if1 .taken, c .before .if2 .taken) (c .leaving .ensures)
@@ -17,15 +14,9 @@ returns-2 : tie.Need-returns-2
 unfolding toEnter
 returns-2 c = rw (c .before .before .if1 .taken, c .if2 .left)
 
-leaving-requires-2 : tie.Need-leaving-requires-2
-leaving-requires-2 c κs = search needs
-
 returns-3 : tie.Need-returns-3
 unfolding toEnter
 returns-3 c = rw (c .before .before .if1 .left, le-leb _ _ (c .before .if3 .taken)) (c .leaving2 .ensures)
-
-add-t10 : tie.Need-add-t10
-add-t10 c = search needs
 
 returns-4 : tie.Need-returns-4
 unfolding toEnter
@@ -34,4 +25,4 @@ returns-4 c = rw (c .before .if1 .left, lt-leb _ _ (c .if3 .left))
 pub to-enter-spec : {M : Type 1} → statement M
 to-enter-spec =
     tie.close
-    (tie.spec leaving-requires returns returns-2 leaving-requires-2 returns-3 add-t10 returns-4)
+    (tie.spec (λ c κs. search needs) returns returns-2 (λ c κs. search needs) returns-3 (λ c. search needs) returns-4)

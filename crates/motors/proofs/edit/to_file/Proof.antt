@@ -5,24 +5,9 @@ use Rattle.motors.specs.Edit.{toFile}
 use Rattle.motors.proofs.edit.to_file.Statement.{statement}
 use Rattle.motors.proofs.edit.to_file.Tie as tie
 
-leaving-requires : tie.Need-leaving-requires
-leaving-requires c κs = search needs
-
 returns : tie.Need-returns
 unfolding toFile
 returns c = rw (c .before .if1 .taken) (c .leaving .ensures)
-
-enum-known-report : tie.Need-enum-known-report
-enum-known-report c = search needs
-
-to-enter-requires : tie.Need-to-enter-requires
-to-enter-requires c κs = search needs
-
-enum-known-report-2 : tie.Need-enum-known-report-2
-enum-known-report-2 c = search needs
-
-leaving-requires-2 : tie.Need-leaving-requires-2
-leaving-requires-2 c κs = search needs
 
 returns-2 : tie.Need-returns-2
 unfolding toFile
@@ -36,11 +21,11 @@ pub to-file-spec : {M : Type 1} → statement M
 to-file-spec =
     tie.close
     (tie.spec
-    leaving-requires
+    (λ c κs. search needs)
     returns
-    enum-known-report
-    to-enter-requires
-    enum-known-report-2
-    leaving-requires-2
+    (λ c. search needs)
+    (λ c κs. search needs)
+    (λ c. search needs)
+    (λ c κs. search needs)
     returns-2
     returns-3)

@@ -7,45 +7,21 @@ use Rattle.motors.specs.Edit.{toStrike}
 use Rattle.motors.proofs.edit.to_strike.Statement.{statement}
 use Rattle.motors.proofs.edit.to_strike.Tie as tie
 
-leaving-requires : tie.Need-leaving-requires
-leaving-requires c κs = search needs
-
 returns : tie.Need-returns
 unfolding toStrike
 returns c = rw (c .before .if1 .taken) (c .leaving .ensures)
-
-is-line-requires : tie.Need-is-line-requires
-is-line-requires c κs = search needs
-
-leaving-requires-2 : tie.Need-leaving-requires-2
-leaving-requires-2 c κs = search needs
 
 returns-2 : tie.Need-returns-2
 unfolding toStrike
 returns-2 c = rw (c .before .before .before .if1 .left, sym (c .before .before .is-line .ensures) ∙ not-true _ (c .before .if2 .taken)) (c .leaving2 .ensures)
 
-leaving-requires-3 : tie.Need-leaving-requires-3
-leaving-requires-3 c κs = search needs
-
 returns-3 : tie.Need-returns-3
 unfolding toStrike
 returns-3 c = rw (c .before .before .before .before .before .if1 .left, sym (c .before .before .before .before .is-line .ensures) ∙ not-false _ (c .before .before .before .if2 .left), c .before .if3 .taken) (c .leaving3 .ensures)
 
-leaving-requires-4 : tie.Need-leaving-requires-4
-leaving-requires-4 c κs = search needs
-
 returns-4 : tie.Need-returns-4
 unfolding toStrike
 returns-4 c = rw (c .before .before .before .before .before .before .if1 .left, sym (c .before .before .before .before .before .is-line .ensures) ∙ not-false _ (c .before .before .before .before .if2 .left), c .before .before .if3 .left, eq-eqb _ _ (c .before .if4 .taken)) (c .leaving4 .ensures)
-
-unread-requires : tie.Need-unread-requires
-unread-requires c κs = search needs
-
-sub-t15 : tie.Need-sub-t15
-sub-t15 c = search needs
-
-sub-t16 : tie.Need-sub-t16
-sub-t16 c = search needs
 
 returns-5 : tie.Need-returns-5
 unfolding toStrike
@@ -55,16 +31,16 @@ pub to-strike-spec : {M : Type 1} → statement M
 to-strike-spec =
     tie.close
     (tie.spec
-    leaving-requires
+    (λ c κs. search needs)
     returns
-    is-line-requires
-    leaving-requires-2
+    (λ c κs. search needs)
+    (λ c κs. search needs)
     returns-2
-    leaving-requires-3
+    (λ c κs. search needs)
     returns-3
-    leaving-requires-4
+    (λ c κs. search needs)
     returns-4
-    unread-requires
-    sub-t15
-    sub-t16
+    (λ c κs. search needs)
+    (λ c. search needs)
+    (λ c. search needs)
     returns-5)

@@ -5,21 +5,6 @@ use Rattle.motors.proofs.InPlace.{filing-in-place}
 use Rattle.motors.proofs.filing.file.Statement.{statement}
 use Rattle.motors.proofs.filing.file.Tie as tie
 
-read-report-requires : tie.Need-read-report-requires
-read-report-requires c κs = search needs
-
-subject-requires : tie.Need-subject-requires
-subject-requires c κs = search needs
-
-survey-requires : tie.Need-survey-requires
-survey-requires c κs = search needs
-
-to-file-requires : tie.Need-to-file-requires
-to-file-requires c κs = search needs
-
-move-up-requires : tie.Need-move-up-requires
-move-up-requires c κs = search needs
-
 returns : tie.Need-returns
 returns c = let t = c .before .before in
     let x = t .before .before .before .before .before .args in
@@ -30,9 +15,9 @@ pub file-spec : {M : Type 1} → statement M
 file-spec =
     tie.close
     (tie.spec
-    read-report-requires
-    subject-requires
-    survey-requires
-    to-file-requires
-    move-up-requires
+    (λ c κs. search needs)
+    (λ c κs. search needs)
+    (λ c κs. search needs)
+    (λ c κs. search needs)
+    (λ c κs. search needs)
     returns)

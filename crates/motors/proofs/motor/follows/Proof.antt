@@ -7,19 +7,13 @@ use borrow.Author.Needs.{needs}
 use Rattle.motors.proofs.motor.follows.Statement.{statement}
 use Rattle.motors.proofs.motor.follows.Tie as tie
 
-right-requires : tie.Need-right-requires
-right-requires c κs = search needs
-
 returns : tie.Need-returns
 unfolding followsOf
 returns c = rw (sym (c .before .right .ensures) ∙ not-true _ (c .if1 .taken))
-
-earlier-requires : tie.Need-earlier-requires
-earlier-requires c κs = search needs
 
 returns-2 : tie.Need-returns-2
 unfolding followsOf
 returns-2 c = rw (sym (c .before .before .right .ensures) ∙ not-false _ (c .before .if1 .left)) (c .earlier .ensures)
 
 pub follows-spec : {M : Type 1} → statement M
-follows-spec = tie.close (tie.spec right-requires returns earlier-requires returns-2)
+follows-spec = tie.close (tie.spec (λ c κs. search needs) returns (λ c κs. search needs) returns-2)

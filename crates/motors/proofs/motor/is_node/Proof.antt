@@ -1,17 +1,13 @@
--- Each return is its bound.
+-- A NodeID by the frame's own rule.
 -- Assumes nothing.
-use borrow.Author.Tests.{le-ltb, lt-ltb}
+use borrow.Author.Needs.{needs}
 use Rattle.motors.specs.Motor.{isNode}
 use Rattle.motors.proofs.motor.is_node.Statement.{statement}
 use Rattle.motors.proofs.motor.is_node.Tie as tie
 
 returns : tie.Need-returns
 unfolding isNode
-returns c = rw (lt-ltb _ _ (c .if1 .taken))
-
-returns-2 : tie.Need-returns-2
-unfolding isNode
-returns-2 c = rw (le-ltb _ _ (c .if1 .left))
+returns c = c .is-node-id .ensures
 
 pub is-node-spec : {M : Type 1} → statement M
-is-node-spec = tie.close (tie.spec returns returns-2)
+is-node-spec = tie.close (tie.spec (λ c κs. search needs) returns)

@@ -7,29 +7,17 @@ use borrow.Author.Needs.{needs}
 use Rattle.motors.proofs.motor.right.Statement.{statement}
 use Rattle.motors.proofs.motor.right.Tie as tie
 
-is-line-requires : tie.Need-is-line-requires
-is-line-requires c κs = search needs
-
 returns : tie.Need-returns
 unfolding rightOf
 returns c = rw (sym (c .before .is-line .ensures) ∙ not-true _ (c .if1 .taken))
-
-is-node-requires : tie.Need-is-node-requires
-is-node-requires c κs = search needs
 
 returns-2 : tie.Need-returns-2
 unfolding rightOf
 returns-2 c = rw (sym (c .before .before .before .is-line .ensures) ∙ not-false _ (c .before .before .if1 .left), sym (c .before .is-node .ensures) ∙ not-true _ (c .if2 .taken))
 
-is-reading-requires : tie.Need-is-reading-requires
-is-reading-requires c κs = search needs
-
 returns-3 : tie.Need-returns-3
 unfolding rightOf
 returns-3 c = rw (sym (c .before .before .before .before .before .is-line .ensures) ∙ not-false _ (c .before .before .before .before .if1 .left), sym (c .before .before .before .is-node .ensures) ∙ not-false _ (c .before .before .if2 .left), c .before .if3 .taken) (c .is-reading .ensures)
-
-no-reading-requires : tie.Need-no-reading-requires
-no-reading-requires c κs = search needs
 
 returns-4 : tie.Need-returns-4
 unfolding rightOf unreadPart
@@ -39,11 +27,11 @@ pub right-spec : {M : Type 1} → statement M
 right-spec =
     tie.close
     (tie.spec
-    is-line-requires
+    (λ c κs. search needs)
     returns
-    is-node-requires
+    (λ c κs. search needs)
     returns-2
-    is-reading-requires
+    (λ c κs. search needs)
     returns-3
-    no-reading-requires
+    (λ c κs. search needs)
     returns-4)

@@ -22,31 +22,10 @@ returns c = let x = c .before .args in
     let e : length (x .motors) ≡ 256 = search needs in
     sym (down-not (x .motors) (x .last) (x .from) (x .motor) (omega (arith, e, c .if1 .taken)))
 
-add-i : tie.Need-add-i Inv-loop μ-loop
-add-i c = search needs
-
 loop-holds : tie.Need-loop-holds Inv-loop μ-loop
 loop-holds c = let x = c .before .args in
     let e : length (x .motors) ≡ 256 = search needs in
     (e, omega arith, sym (down-starts (x .motors) (x .last) (x .from) (x .motor) (omega (arith, e, c .if1 .left))))
-
-sub-i : tie.Need-sub-i Inv-loop μ-loop
-sub-i c = search needs
-
-mul-next : tie.Need-mul-next Inv-loop μ-loop
-mul-next c = search needs
-
-array-copy-out-next : tie.Need-array-copy-out-next Inv-loop μ-loop
-array-copy-out-next c = search needs
-
-mul-all : tie.Need-mul-all Inv-loop μ-loop
-mul-all c = search needs
-
-array-set-from-all : tie.Need-array-set-from-all Inv-loop μ-loop
-array-set-from-all c = search needs
-
-loop-less : tie.Need-loop-less Inv-loop μ-loop
-loop-less c = search needs
 
 loop-again : tie.Need-loop-again Inv-loop μ-loop
 loop-again c = let k = c .before .before in
@@ -67,13 +46,13 @@ move-down-spec =
     Inv-loop
     μ-loop
     returns
-    add-i
+    (λ c. search needs)
     loop-holds
-    sub-i
-    mul-next
-    array-copy-out-next
-    mul-all
-    array-set-from-all
-    loop-less
+    (λ c. search needs)
+    (λ c. search needs)
+    (λ c. search needs)
+    (λ c. search needs)
+    (λ c. search needs)
+    (λ c. search needs)
     loop-again
     returns-2)

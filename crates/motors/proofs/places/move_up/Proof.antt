@@ -27,23 +27,11 @@ loop-holds c = let x = c .before .args in
     let e : length (x .motors) ≡ 256 = search needs in
     (e, omega arith, sym (up-starts (x .motors) (x .last) (x .from) (x .motor) (omega (arith, e, c .if1 .left))))
 
-mul-next : tie.Need-mul-next Inv-loop μ-loop
-mul-next c = search needs
-
 array-copy-out-next : tie.Need-array-copy-out-next Inv-loop μ-loop
 array-copy-out-next c = omega (arith, c .before .loop .inv .1, c .loop-test .taken)
 
-mul-all : tie.Need-mul-all Inv-loop μ-loop
-mul-all c = search needs
-
 array-set-from-all : tie.Need-array-set-from-all Inv-loop μ-loop
 array-set-from-all c = omega (arith, c .before .before .loop .inv .1, c .before .loop-test .taken)
-
-add-i : tie.Need-add-i Inv-loop μ-loop
-add-i c = search needs
-
-loop-less : tie.Need-loop-less Inv-loop μ-loop
-loop-less c = search needs
 
 loop-again : tie.Need-loop-again Inv-loop μ-loop
 loop-again c = let k = c .before .before in
@@ -65,11 +53,11 @@ move-up-spec =
     μ-loop
     returns
     loop-holds
-    mul-next
+    (λ c. search needs)
     array-copy-out-next
-    mul-all
+    (λ c. search needs)
     array-set-from-all
-    add-i
-    loop-less
+    (λ c. search needs)
+    (λ c. search needs)
     loop-again
     returns-2)

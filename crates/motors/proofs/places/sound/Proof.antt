@@ -7,15 +7,9 @@ use Rattle.motors.proofs.Surveyed.{survey-says-sound}
 use Rattle.motors.proofs.places.sound.Statement.{statement}
 use Rattle.motors.proofs.places.sound.Tie as tie
 
-unread-requires : tie.Need-unread-requires
-unread-requires c κs = search needs
-
-survey-requires : tie.Need-survey-requires
-survey-requires c κs = search needs
-
 returns : tie.Need-returns
 returns c = let x = c .before .before .args in
     ap (λ (s : Survey). s .sound) (c .survey .ensures) ∙ survey-says-sound (c .before .unread .result) (x .count) (x .motors)
 
 pub sound-spec : {M : Type 1} → statement M
-sound-spec = tie.close (tie.spec unread-requires survey-requires returns)
+sound-spec = tie.close (tie.spec (λ c κs. search needs) (λ c κs. search needs) returns)

@@ -16,27 +16,9 @@ Inv-loop count motor motors found₀ i₀ found i = (i ≤ 256) × (passed motor
 abbrev μ-loop : tie.MeasureT-loop
 μ-loop count motor motors found₀ i₀ found i = 256 - i
 
-begun-requires : tie.Need-begun-requires Inv-loop μ-loop
-begun-requires c κs = search needs
-
 loop-holds : tie.Need-loop-holds Inv-loop μ-loop
 loop-holds c = let e : length (c .before .args .t1) ≡ 256 = search needs in
     (omega arith, rw (c .begun .ensures, e))
-
-mul-past : tie.Need-mul-past Inv-loop μ-loop
-mul-past c = search needs
-
-array-copy-out-past : tie.Need-array-copy-out-past Inv-loop μ-loop
-array-copy-out-past c = search needs
-
-past-requires : tie.Need-past-requires Inv-loop μ-loop
-past-requires c κs = search needs
-
-add-i : tie.Need-add-i Inv-loop μ-loop
-add-i c = search needs
-
-loop-less : tie.Need-loop-less Inv-loop μ-loop
-loop-less c = search needs
 
 loop-again : tie.Need-loop-again Inv-loop μ-loop
 loop-again c = let k = c .before .before .before in
@@ -58,12 +40,12 @@ survey-spec =
     (tie.spec
     Inv-loop
     μ-loop
-    begun-requires
+    (λ c κs. search needs)
     loop-holds
-    mul-past
-    array-copy-out-past
-    past-requires
-    add-i
-    loop-less
+    (λ c. search needs)
+    (λ c. search needs)
+    (λ c κs. search needs)
+    (λ c. search needs)
+    (λ c. search needs)
     loop-again
     returns)

@@ -7,18 +7,6 @@ use borrow.Author.Needs.{needs}
 use Rattle.motors.proofs.report.read_report.Statement.{statement}
 use Rattle.motors.proofs.report.read_report.Tie as tie
 
-read-requires : tie.Need-read-requires
-read-requires c κs = search needs
-
-enum-known-reading : tie.Need-enum-known-reading
-enum-known-reading c = search needs
-
-framed-requires : tie.Need-framed-requires
-framed-requires c κs = search needs
-
-enum-known-reading-2 : tie.Need-enum-known-reading-2
-enum-known-reading-2 c = search needs
-
 returns : tie.Need-returns
 returns c = let x = c .before .before .before .before .before .before .args in
     c .framed .ensures
@@ -32,9 +20,9 @@ pub read-report-spec : {M : Type 1} → statement M
 read-report-spec =
     tie.close
     (tie.spec
-    read-requires
-    enum-known-reading
-    framed-requires
-    enum-known-reading-2
+    (λ c κs. search needs)
+    (λ c. search needs)
+    (λ c κs. search needs)
+    (λ c. search needs)
     returns
     returns-2)

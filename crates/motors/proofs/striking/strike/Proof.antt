@@ -5,18 +5,6 @@ use Rattle.motors.proofs.InPlace.{striking-in-place}
 use Rattle.motors.proofs.striking.strike.Statement.{statement}
 use Rattle.motors.proofs.striking.strike.Tie as tie
 
-unread-requires : tie.Need-unread-requires
-unread-requires c κs = search needs
-
-survey-requires : tie.Need-survey-requires
-survey-requires c κs = search needs
-
-to-strike-requires : tie.Need-to-strike-requires
-to-strike-requires c κs = search needs
-
-move-down-requires : tie.Need-move-down-requires
-move-down-requires c κs = search needs
-
 returns : tie.Need-returns
 returns c = let t = c .before .before in
     let x = t .before .before .before .args in
@@ -26,4 +14,4 @@ returns c = let t = c .before .before in
 pub strike-spec : {M : Type 1} → statement M
 strike-spec =
     tie.close
-    (tie.spec unread-requires survey-requires to-strike-requires move-down-requires returns)
+    (tie.spec (λ c κs. search needs) (λ c κs. search needs) (λ c κs. search needs) (λ c κs. search needs) returns)

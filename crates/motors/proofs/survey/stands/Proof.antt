@@ -4,17 +4,11 @@ use borrow.Author.Needs.{needs}
 use Rattle.motors.proofs.survey.stands.Statement.{statement}
 use Rattle.motors.proofs.survey.stands.Tie as tie
 
-follows-requires : tie.Need-follows-requires
-follows-requires c κs = search needs
-
 returns : tie.Need-returns
 returns c = rw (c .before .if1 .taken) (c .follows .ensures)
-
-blank-requires : tie.Need-blank-requires
-blank-requires c κs = search needs
 
 returns-2 : tie.Need-returns-2
 returns-2 c = rw (c .before .if1 .left) (c .blank .ensures)
 
 pub stands-spec : {M : Type 1} → statement M
-stands-spec = tie.close (tie.spec follows-requires returns blank-requires returns-2)
+stands-spec = tie.close (tie.spec (λ c κs. search needs) returns (λ c κs. search needs) returns-2)

@@ -7,9 +7,6 @@ use Rattle.motors.specs.Survey.{past}
 use Rattle.motors.proofs.survey.Survey.past.Statement.{statement}
 use Rattle.motors.proofs.survey.Survey.past.Tie as tie
 
-sound-after-requires : tie.Need-sound-after-requires
-sound-after-requires c κs = search needs
-
 returns : tie.Need-returns
 unfolding past
 returns c = rw (c .before .before .sound-after .ensures, lt-ltb _ _ (c .if1 .taken))
@@ -18,15 +15,9 @@ returns-2 : tie.Need-returns-2
 unfolding past
 returns-2 c = rw (c .before .before .before .sound-after .ensures, le-ltb _ _ (c .before .if1 .left), le-leb _ _ (c .if2 .taken))
 
-earlier-requires : tie.Need-earlier-requires
-earlier-requires c κs = search needs
-
 returns-3 : tie.Need-returns-3
 unfolding past
 returns-3 c = rw (c .before .before .before .before .before .sound-after .ensures, le-ltb _ _ (c .before .before .before .if1 .left), lt-leb _ _ (c .before .before .if2 .left), sym (c .before .earlier .ensures) ∙ c .if3 .taken)
-
-is-motor-requires : tie.Need-is-motor-requires
-is-motor-requires c κs = search needs
 
 returns-4 : tie.Need-returns-4
 unfolding past
@@ -43,10 +34,10 @@ pub past-spec : {M : Type 1} → statement M
 past-spec =
     tie.close
     (tie.spec
-    sound-after-requires
+    (λ c κs. search needs)
     returns
     returns-2
-    earlier-requires
+    (λ c κs. search needs)
     returns-3
-    is-motor-requires
+    (λ c κs. search needs)
     returns-4)
