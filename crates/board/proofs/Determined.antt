@@ -68,6 +68,12 @@ use Rattle.board.proofs.events.cleared.Kinds as cleared-kinds
 use Rattle.board.proofs.events.cleared.Reads as cleared
 use Rattle.board.proofs.events.power_up.Kinds as power-up-kinds
 use Rattle.board.proofs.events.power_up.Reads as power-up
+use Rattle.board.proofs.groups.apply.Kinds as apply-kinds
+use Rattle.board.proofs.groups.apply.Reads as apply
+use Rattle.board.proofs.groups.in_table.Kinds as in-table-kinds
+use Rattle.board.proofs.groups.in_table.Reads as in-table
+use Rattle.board.proofs.groups.no_groups.Kinds as no-groups-kinds
+use Rattle.board.proofs.groups.no_groups.Reads as no-groups
 
 pub record Determined : Type 0 where
   pub in-range-once : Once in-range-kinds.ps in-range-kinds.r in-range.Post
@@ -103,6 +109,9 @@ pub record Determined : Type 0 where
   pub blocked-once : Once blocked-kinds.ps blocked-kinds.r blocked.Post
   pub cleared-once : Once cleared-kinds.ps cleared-kinds.r cleared.Post
   pub power-up-once : Once power-up-kinds.ps power-up-kinds.r power-up.Post
+  pub apply-once : Once apply-kinds.ps apply-kinds.r apply.Post
+  pub in-table-once : Once in-table-kinds.ps in-table-kinds.r in-table.Post
+  pub no-groups-once : Once no-groups-kinds.ps no-groups-kinds.r no-groups.Post
 
 pub determined : Determined
 determined =
@@ -140,4 +149,7 @@ determined =
       blocked-once = λ κs a x y s t p q. p ∙ sym q;
       cleared-once = λ κs a x y s t p q. p ∙ sym q;
       power-up-once = λ κs a x y s t p q. p ∙ sym q;
+      apply-once = λ κs a x y s t p q. p ∙ sym q;
+      in-table-once = λ κs a x y s t p q. p ∙ sym q;
+      no-groups-once = λ κs a x y s t p q. p ∙ sym q;
     }

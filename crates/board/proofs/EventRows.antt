@@ -1,67 +1,47 @@
--- Each answer to set-up and to an event, from the rows that did not apply and the one that decides.
+-- Each answer to set-up and to an event, where so many of its rows are passed over: the next one applies, or none is left and it is done.
 -- Assumes nothing.
-use Prim.Native.Nat.{ℕ, _≤_, _<_}
+use Prim.Native.Nat.{ℕ}
 use mathlib.Core.Path.{_≡_}
-use mathlib.Core.Bool.{true, false}
-use borrow.Author.Tests.{lt-ltb, le-ltb}
-use Rattle.refusal.specs.declared.Refusal.{Refusal}
+use Rattle.meaning.specs.Tables.{Applies, answerAt, decided}
 use Rattle.travel.specs.declared.Pulse.{Pulse}
-use Rattle.board.specs.Settings.{inRange}
 use Rattle.board.specs.Drive.{atPulse, blockedBy, unblocked, poweredUp}
 use Rattle.board.specs.Lock.{overPowerUp}
-use Rattle.board.specs.Node.{fresh, sound, withDrive, withLock}
-use Rattle.board.specs.Events.{setUp, afterPulse, afterBlocked, afterCleared, afterPowerUp, done, refusedBy, blocks}
+use Rattle.board.specs.Node.{fresh, withDrive, withLock}
+use Rattle.board.specs.Events.{
+  setUpTable,
+  setUp,
+  pulseTable,
+  afterPulse,
+  blockedTable,
+  afterBlocked,
+  brokenTable,
+  afterCleared,
+  afterPowerUp,
+  done,
+}
 use Rattle.board.specs.declared.settings.Settings.{Settings}
 use Rattle.board.specs.declared.whole.Node.{Node}
 
-module _ (s : Settings) where
-  pub set-up-refused : inRange s ≡ false → setUp s ≡ refusedBy (fresh s) Refusal.BadSettings
-  unfolding setUp
-  set-up-refused r = rw r
+pub set-up-at : (s : Settings) (passed : ℕ) → Applies passed (setUpTable s) → setUp s ≡ answerAt passed (setUpTable s) (done (fresh s))
+unfolding setUp
+set-up-at s passed = decided passed (setUpTable s) (done (fresh s))
 
-  pub set-up-done : inRange s ≡ true → setUp s ≡ done (fresh s)
-  unfolding setUp
-  set-up-done r = rw r
-
--- Row 33, for each event.
-module _ (n : Node) (broken : sound n ≡ false) where
-  pub pulse-broken : (p : Pulse) → afterPulse n p ≡ refusedBy n Refusal.BrokenNode
+module _ (n : Node) (passed : ℕ) where
+  pub pulse-at : (p : Pulse) → Applies passed (pulseTable n p)
+      → afterPulse n p ≡ answerAt passed (pulseTable n p) (done (withDrive n (atPulse (n .drive) p)))
   unfolding afterPulse
-  pulse-broken p = rw broken
+  pulse-at p = decided passed (pulseTable n p) (done (withDrive n (atPulse (n .drive) p)))
 
-  pub blocked-broken : (cause : ℕ) → afterBlocked n cause ≡ refusedBy n Refusal.BrokenNode
+  pub blocked-at : (cause : ℕ) → Applies passed (blockedTable n cause)
+      → afterBlocked n cause ≡ answerAt passed (blockedTable n cause) (done (withDrive n (blockedBy (n .drive) cause)))
   unfolding afterBlocked
-  blocked-broken cause = rw broken
+  blocked-at cause = decided passed (blockedTable n cause) (done (withDrive n (blockedBy (n .drive) cause)))
 
-  pub cleared-broken : afterCleared n ≡ refusedBy n Refusal.BrokenNode
+  pub cleared-at : Applies passed (brokenTable n) → afterCleared n ≡ answerAt passed (brokenTable n) (done (withDrive n (unblocked (n .drive))))
   unfolding afterCleared
-  cleared-broken = rw broken
+  cleared-at = decided passed (brokenTable n) (done (withDrive n (unblocked (n .drive))))
 
-  pub power-up-broken : afterPowerUp n ≡ refusedBy n Refusal.BrokenNode
+  pub power-up-at : Applies passed (brokenTable n)
+      → afterPowerUp n ≡ answerAt passed (brokenTable n) (done (withLock (withDrive n (poweredUp (n .drive))) (overPowerUp (n .lock))))
   unfolding afterPowerUp
-  power-up-broken = rw broken
-
-module _ (n : Node) (fine : sound n ≡ true) where
-  pub pulse-beyond : (p : Pulse) → n .settings .travel .0 < p .0 → afterPulse n p ≡ refusedBy n Refusal.BeyondTravel
-  unfolding afterPulse
-  pulse-beyond p h = rw (fine, lt-ltb (n .settings .travel .0) (p .0) h)
-
-  pub pulse-done : (p : Pulse) → p .0 ≤ n .settings .travel .0 → afterPulse n p ≡ done (withDrive n (atPulse (n .drive) p))
-  unfolding afterPulse
-  pulse-done p h = rw (fine, le-ltb (n .settings .travel .0) (p .0) h)
-
-  pub blocked-refused : (cause : ℕ) → blocks cause ≡ false → afterBlocked n cause ≡ refusedBy n Refusal.NotBlocking
-  unfolding afterBlocked
-  blocked-refused cause h = rw (fine, h)
-
-  pub blocked-done : (cause : ℕ) → blocks cause ≡ true → afterBlocked n cause ≡ done (withDrive n (blockedBy (n .drive) cause))
-  unfolding afterBlocked
-  blocked-done cause h = rw (fine, h)
-
-  pub cleared-done : afterCleared n ≡ done (withDrive n (unblocked (n .drive)))
-  unfolding afterCleared
-  cleared-done = rw fine
-
-  pub power-up-done : afterPowerUp n ≡ done (withLock (withDrive n (poweredUp (n .drive))) (overPowerUp (n .lock)))
-  unfolding afterPowerUp
-  power-up-done = rw fine
+  power-up-at = decided passed (brokenTable n) (done (withLock (withDrive n (poweredUp (n .drive))) (overPowerUp (n .lock))))

@@ -6,3 +6,5 @@ pub mod PowerUp
 pub mod Refusals
 pub mod Determined
 pub mod Ranges
+pub mod GroupTable
+pub mod Fitting

@@ -6,25 +6,11 @@ use mathlib.Core.Logic.{_↔_}
 use Rattle.meaning.specs.Chosen.{chosen, passed}
 use Rattle.board.specs.Lock.{lock, noLock, overPowerUp}
 use Rattle.board.specs.Node.{sound}
-use Rattle.board.specs.Events.{afterPowerUp}
-use Rattle.board.specs.declared.drive.Motion.the-variants.{Still}
+use Rattle.board.specs.Events.{afterPowerUp, PoweredUp}
 use Rattle.board.specs.declared.lock.Lock.{Lock}
 use Rattle.board.specs.declared.whole.Node.{Node}
 use Rattle.board.specs.declared.events.After.{After}
-use Rattle.board.proofs.EventRows.{power-up-done}
-
--- Before and after.
-pub record PoweredUp (n m : Node) : Type 0 where
-  pub settings-kept : m .settings ≡ n .settings
-  pub favourites-kept : m .favourites ≡ n .favourites
-  pub position-kept : m .drive .position ≡ n .drive .position
-  pub not-running : m .drive .motion ≡ Still
-  pub not-blocked : m .drive .blocked ≡ false
-  pub direction-unknown : m .drive .direction ≡ 0xFF
-  pub source-internal : m .drive .source ≡ 0
-  pub cause-unknown : m .drive .cause ≡ 0xFF
-  pub lock-kept : n .lock .saved ≡ true → m .lock ≡ n .lock
-  pub lock-dropped : n .lock .saved ≡ false → m .lock ≡ noLock
+use Rattle.board.proofs.EventRows.{power-up-at}
 
 module _ (l : Lock) where
   saved-kept : l .saved ≡ true → overPowerUp l ≡ l
@@ -42,7 +28,7 @@ module _ (l : Lock) where
 
 pub power-up-keeps-and-clears : (n : Node) → sound n ≡ true → PoweredUp n (afterPowerUp n .node)
 power-up-keeps-and-clears n s =
-    let e = power-up-done n s in
+    let e = power-up-at n 1 (s, tt) in
     record {
       settings-kept = ap (λ (a : After). a .node .settings) e;
       favourites-kept = ap (λ (a : After). a .node .favourites) e;

@@ -8,8 +8,11 @@ use mathlib.Core.List.{List, [], _∷_}
 use borrow.Author.Tests.{le-leb, leb-true}
 use lib.Dec.{leb}
 use lib.ListN.{getD}
+use Rattle.meaning.specs.Cases.{both, and-so}
+use Rattle.frame.specs.Address.{aNodeID}
 use Rattle.travel.specs.declared.Pulse.{Pulse}
 use Rattle.board.specs.Settings.{inRange}
+use Rattle.board.specs.Ranges.{SettingsInRange, BoardInRange}
 use Rattle.board.specs.Drive.{motionWithin}
 use Rattle.board.specs.Favourites.{slot, ipWithin, ipsWithin}
 use Rattle.board.specs.Node.{sound}
@@ -20,24 +23,7 @@ use Rattle.board.specs.declared.favourites.Ip.the-variants.{Unset, At}
 use Rattle.board.specs.declared.favourites.Slot.{Slot}
 use Rattle.board.specs.declared.settings.Settings.{Settings}
 use Rattle.board.specs.declared.whole.Node.{Node}
-use Rattle.board.proofs.Within.{both, and-so}
 use Rattle.board.proofs.Sound.{parts-of, sound-of}
-
--- Row 32. A travel is 16 bits, so that 65,535 bounds it by its type.
-pub record SettingsInRange (s : Settings) : Type 0 where
-  pub NodeID-from-000001h : 0x000001 ≤ s .id .0
-  pub NodeID-to-FFFEFFh : s .id .0 ≤ 0xFFFEFF
-  pub type-from-1 : 1 ≤ s .kind
-  pub type-to-15 : s .kind ≤ 15
-  pub travel-from-100 : 100 ≤ s .travel .0
-
--- Row 33. A target is held only while the motor runs, and an IP only where it is set.
-pub record BoardInRange (n : Node) : Type 0 where
-  pub settings-in-range : SettingsInRange (n .settings)
-  pub position-within-the-travel : n .drive .position .0 ≤ n .settings .travel .0
-  pub target-within-the-travel : (target : Pulse) → n .drive .motion ≡ Running target → target .0 ≤ n .settings .travel .0
-  pub every-IP-within-the-travel : (place : ℕ) (p : Pulse) → getD (n .favourites .slots) place (slot Unset) .ip ≡ At p → p .0 ≤ n .settings .travel .0
-  pub holder-to-FFFFFFh : n .lock .holder .0 ≤ 0xFFFFFF
 
 module _ (s : Settings) where
   abbrev typed : Bool
@@ -45,13 +31,13 @@ module _ (s : Settings) where
 
   settings-are : inRange s ≡ true → SettingsInRange s
   settings-are e =
-      let a = both (leb 0x000001 (s .id .0)) (leb (s .id .0) 0xFFFEFF && typed) e in
-      let b = both (leb (s .id .0) 0xFFFEFF) typed (a .1) in
-      let c = both (leb 1 (s .kind)) (leb (s .kind) 15 && leb 100 (s .travel .0)) (b .1) in
+      let a = both (aNodeID (s .id) .holds) typed e in
+      let id = aNodeID (s .id) .is-fact (a .0) in
+      let c = both (leb 1 (s .kind)) (leb (s .kind) 15 && leb 100 (s .travel .0)) (a .1) in
       let d = both (leb (s .kind) 15) (leb 100 (s .travel .0)) (c .1) in
       record {
-        NodeID-from-000001h = leb-true 0x000001 (s .id .0) (a .0);
-        NodeID-to-FFFEFFh = leb-true (s .id .0) 0xFFFEFF (b .0);
+        NodeID-from-000001h = id .0;
+        NodeID-to-FFFEFFh = id .1;
         type-from-1 = leb-true 1 (s .kind) (c .0);
         type-to-15 = leb-true (s .kind) 15 (d .0);
         travel-from-100 = leb-true 100 (s .travel .0) (d .1);

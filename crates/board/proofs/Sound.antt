@@ -6,6 +6,7 @@ use mathlib.Core.Path.{_≡_, refl}
 use mathlib.Core.Bool.{true, false, not, _&&_}
 use borrow.Author.Tests.{le-leb, leb-true, ltb-false}
 use lib.Dec.{leb, ltb}
+use Rattle.meaning.specs.Cases.{both, and-so}
 use Rattle.meaning.specs.Choice.{either}
 use Rattle.travel.specs.declared.Pulse.{Pulse}
 use Rattle.board.specs.Settings.{inRange}
@@ -20,7 +21,7 @@ use Rattle.board.specs.declared.lock.Lock.{Lock}
 use Rattle.board.specs.declared.settings.Settings.{Settings}
 use Rattle.board.specs.declared.whole.Node.{Node}
 use Rattle.board.specs.declared.events.After.{After}
-use Rattle.board.proofs.Within.{both, and-so, at-pulse-within, blocked-within, unblocked-within, powered-up-within, none-within}
+use Rattle.board.proofs.Within.{at-pulse-within, blocked-within, unblocked-within, powered-up-within, none-within}
 use Rattle.board.proofs.StateRows.{by-settings}
 
 -- What row 33 asks, part by part.

@@ -2,11 +2,12 @@
 -- Assumes nothing.
 use Prim.Native.Nat.{ℕ, zero, suc, _-_, _≤_}
 use mathlib.Core.Path.{_≡_, refl}
-use mathlib.Core.Bool.{Bool, true, false, _&&_, false≢true}
+use mathlib.Core.Bool.{Bool, true, false, false≢true}
 use mathlib.Core.List.{List, [], _∷_, _++_}
 use borrow.Author.Tests.{le-leb, leb-true}
 use lib.Dec.{eqb, leb}
 use lib.ListN.{getD, set}
+use Rattle.meaning.specs.Cases.{both, and-so}
 use Rattle.meaning.specs.Choice.{either}
 use Rattle.travel.specs.Position.{pulseOfPercent, pulse-at-most-travel}
 use Rattle.travel.specs.Share.{shareOf}
@@ -22,13 +23,6 @@ use Rattle.board.specs.declared.favourites.Favourites.{Favourites}
 use Rattle.board.specs.declared.favourites.Ip.{Ip}
 use Rattle.board.specs.declared.favourites.Ip.the-variants.{Unset}
 use Rattle.board.specs.declared.favourites.Slot.{Slot}
-
-pub both : (a b : Bool) → (a && b) ≡ true → (a ≡ true) × (b ≡ true)
-both true b e = (refl, e)
-both false b e = absurd (false≢true e)
-
-pub and-so : (a b : Bool) → a ≡ true → b ≡ true → (a && b) ≡ true
-and-so a b e f = rw (e, f)
 
 -- The motor.
 module _ (travel : Pulse) (d : Drive) (w : driveWithin travel d ≡ true) where

@@ -18,7 +18,8 @@ drive position motion direction source cause blocked =
 abbrev pub towards : Pulse → Pulse → ℕ
 towards from to = if ltb (from .0) (to .0) then 0 else 1
 
--- MOVETO. Already there: stopped, source 0, cause 0, direction kept. Else running, direction 0 down or 1 up, source 1, cause 1.
+-- MOVETO. Already there: stopped, source 0, cause 0, direction kept. Else running, direction 0 down or 1 up, source 1,
+-- cause 1.
 abbrev pub movedTo : Drive → Pulse → Drive
 movedTo d to =
     if eqb (d .position .0) (to .0)

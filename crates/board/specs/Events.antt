@@ -1,15 +1,19 @@
 -- Set-up and events (document 01, rows 30 to 33, "Events"). A refusal gives back the node as it was.
 -- Assumes nothing.
 use Prim.Native.Nat.{ℕ}
-use mathlib.Core.Bool.{Bool, not, _||_}
-use lib.Dec.{eqb, ltb}
-use Rattle.meaning.specs.Choice.{if_then_else_}
+use mathlib.Core.Path.{_≡_}
+use mathlib.Core.Bool.{Bool, true, false, _||_}
+use mathlib.Core.List.{List, [], _∷_}
+use lib.Dec.{eqb}
+use Rattle.meaning.specs.Tables.{Row, _when_, decide}
+use Rattle.meaning.specs.Tests.{fails, _above_}
 use Rattle.refusal.specs.declared.Refusal.{Refusal}
 use Rattle.travel.specs.declared.Pulse.{Pulse}
 use Rattle.board.specs.Settings.{inRange}
 use Rattle.board.specs.Drive.{atPulse, blockedBy, unblocked, poweredUp}
-use Rattle.board.specs.Lock.{overPowerUp}
+use Rattle.board.specs.Lock.{noLock, overPowerUp}
 use Rattle.board.specs.Node.{fresh, sound, withDrive, withLock}
+use Rattle.board.specs.declared.drive.Motion.the-variants.{Still}
 use Rattle.board.specs.declared.settings.Settings.{Settings}
 use Rattle.board.specs.declared.whole.Node.{Node}
 use Rattle.board.specs.declared.events.After.{After}
@@ -22,34 +26,55 @@ abbrev pub refusedBy : Node → Refusal → After
 refusedBy n r = record { node = n; verdict = Refused r }
 
 -- Row 32.
+abbrev pub setUpTable : Settings → List (Row After)
+setUpTable s = refusedBy (fresh s) Refusal.BadSettings when fails (inRange s) ∷ []
+
 unfoldable pub setUp : Settings → After
-setUp s = if not (inRange s) then refusedBy (fresh s) Refusal.BadSettings else done (fresh s)
+setUp s = decide (setUpTable s) (done (fresh s))
 
 -- Rows 33, then 30.
+abbrev pub pulseTable : Node → Pulse → List (Row After)
+pulseTable n p =
+    refusedBy n Refusal.BrokenNode when fails (sound n)
+    ∷ refusedBy n Refusal.BeyondTravel when p .0 above n .settings .travel .0
+    ∷ []
+
 unfoldable pub afterPulse : Node → Pulse → After
-afterPulse n p =
-    if not (sound n) then refusedBy n Refusal.BrokenNode else
-    if ltb (n .settings .travel .0) (p .0) then refusedBy n Refusal.BeyondTravel else
-    done (withDrive n (atPulse (n .drive) p))
+afterPulse n p = decide (pulseTable n p) (done (withDrive n (atPulse (n .drive) p)))
 
 -- Rows 33, then 31: blocking causes are 20h, 21h, 22h.
 abbrev pub blocks : ℕ → Bool
 blocks cause = eqb cause 0x20 || (eqb cause 0x21 || eqb cause 0x22)
 
+abbrev pub blockedTable : Node → ℕ → List (Row After)
+blockedTable n cause =
+    refusedBy n Refusal.BrokenNode when fails (sound n)
+    ∷ refusedBy n Refusal.NotBlocking when fails (blocks cause)
+    ∷ []
+
 unfoldable pub afterBlocked : Node → ℕ → After
-afterBlocked n cause =
-    if not (sound n) then refusedBy n Refusal.BrokenNode else
-    if not (blocks cause) then refusedBy n Refusal.NotBlocking else
-    done (withDrive n (blockedBy (n .drive) cause))
+afterBlocked n cause = decide (blockedTable n cause) (done (withDrive n (blockedBy (n .drive) cause)))
 
 -- Row 33.
+abbrev pub brokenTable : Node → List (Row After)
+brokenTable n = refusedBy n Refusal.BrokenNode when fails (sound n) ∷ []
+
 unfoldable pub afterCleared : Node → After
-afterCleared n =
-    if not (sound n) then refusedBy n Refusal.BrokenNode else
-    done (withDrive n (unblocked (n .drive)))
+afterCleared n = decide (brokenTable n) (done (withDrive n (unblocked (n .drive))))
 
 -- Row 33. Settings, position and favourites are kept.
 unfoldable pub afterPowerUp : Node → After
-afterPowerUp n =
-    if not (sound n) then refusedBy n Refusal.BrokenNode else
-    done (withLock (withDrive n (poweredUp (n .drive))) (overPowerUp (n .lock)))
+afterPowerUp n = decide (brokenTable n) (done (withLock (withDrive n (poweredUp (n .drive))) (overPowerUp (n .lock))))
+
+-- Power-up in the paper's words: the node before and after.
+pub record PoweredUp (n m : Node) : Type 0 where
+  pub settings-kept : m .settings ≡ n .settings
+  pub favourites-kept : m .favourites ≡ n .favourites
+  pub position-kept : m .drive .position ≡ n .drive .position
+  pub not-running : m .drive .motion ≡ Still
+  pub not-blocked : m .drive .blocked ≡ false
+  pub direction-unknown : m .drive .direction ≡ 0xFF
+  pub source-internal : m .drive .source ≡ 0
+  pub cause-unknown : m .drive .cause ≡ 0xFF
+  pub lock-kept : n .lock .saved ≡ true → m .lock ≡ n .lock
+  pub lock-dropped : n .lock .saved ≡ false → m .lock ≡ noLock

@@ -8,7 +8,7 @@ use lib.ListN.{getD, set, replicate}
 use Rattle.meaning.specs.Choice.{if_then_else_}
 use Rattle.travel.specs.declared.Pulse.{Pulse}
 use Rattle.travel.specs.declared.IpIndex.{IpIndex}
-use Rattle.travel.specs.Units.{ip}
+use Rattle.travel.specs.Units.{pulse, ip, anIp}
 use Rattle.travel.specs.Position.{pulseOfPercent}
 use Rattle.travel.specs.Share.{shareOf}
 use Rattle.board.specs.declared.favourites.Ip.{Ip}
@@ -25,12 +25,21 @@ favourites l = record { slots = l }
 abbrev pub noFavourites : Favourites
 noFavourites = favourites (replicate 16 (slot Unset))
 
--- IPs are numbered from 1 to 16.
+-- The number of one of the sixteen IPs.
 abbrev pub isNumber : IpIndex → Bool
-isNumber i = leb 1 (i .0) && leb (i .0) 16
+isNumber i = anIp (i .0) .holds
 
 abbrev pub ipAt : Favourites → IpIndex → Ip
 ipAt f i = if isNumber i then getD (f .slots) (i .0 - 1) (slot Unset) .ip else Unset
+
+abbrev pub isSet : Ip → Bool
+isSet Unset = false
+isSet (At p) = true
+
+-- The pulse of an IP that is set.
+abbrev pub pulseOf : Ip → Pulse
+pulseOf Unset = pulse 0
+pulseOf (At p) = p
 
 abbrev pub withIp : Favourites → IpIndex → Ip → Favourites
 withIp f i x = if isNumber i then favourites (set (f .slots) (i .0 - 1) (slot x)) else f

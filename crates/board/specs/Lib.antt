@@ -2,5 +2,8 @@ pub mod Settings
 pub mod Drive
 pub mod Favourites
 pub mod Lock
+pub mod Groups
 pub mod Node
 pub mod Events
+pub mod Ranges
+pub mod Typed

@@ -2,9 +2,10 @@
 -- Assumes nothing.
 use mathlib.Core.Bool.{Bool, _&&_}
 use lib.Dec.{leb}
+use Rattle.frame.specs.Address.{aNodeID}
 use Rattle.board.specs.declared.settings.Settings.{Settings}
 
--- NodeID 000001h to FFFEFFh, type 1 to 15, travel from 100; a pulse is 16 bits, so that 65,535 is no test.
+-- A NodeID, type 1 to 15, travel from 100; a pulse is 16 bits, so that 65,535 is no test.
 abbrev pub inRange : Settings → Bool
 inRange s =
-    leb 0x000001 (s .id .0) && (leb (s .id .0) 0xFFFEFF && (leb 1 (s .kind) && (leb (s .kind) 15 && leb 100 (s .travel .0))))
+    aNodeID (s .id) .holds && (leb 1 (s .kind) && (leb (s .kind) 15 && leb 100 (s .travel .0)))

@@ -1,7 +1,9 @@
-// The awning board itself: its settings, motor, favourite positions and lock, and what happens to them. The bus stands on top, in `node`.
+// The awning board itself: its settings, motor, favourite positions, lock and groups, and what happens to them. The bus
+// is above it, in `node`.
 mod drive;
 mod events;
 mod favourites;
+mod groups;
 mod lock;
 mod settings;
 mod whole;
@@ -18,6 +20,10 @@ pub use events::set_up;
 pub use favourites::Favourites;
 pub use favourites::Ip;
 pub use favourites::Slot;
+pub use groups::Change;
+pub use groups::apply;
+pub use groups::in_table;
+pub use groups::no_groups;
 pub use lock::Lock;
 pub use settings::Settings;
 pub use whole::Node;

@@ -4,9 +4,9 @@ ghost use mathlib.Core.Path.{_≡_};
 ghost use Rattle.board.specs.Lock.{noLock, admits, locked, unlocked, saving, overPowerUp};
 
 pub struct Lock {
-    pub locked: bool,
     // SOURCE of the lock in force.
     pub holder: Address,
+    pub locked: bool,
     pub priority: u8,
     // The lock survives power-up.
     pub saved: bool,

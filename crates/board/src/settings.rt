@@ -18,10 +18,8 @@ impl Settings {
     pub fn in_range(self) -> bool
         ensures { λ r. ⌜ r ≡ inRange self ⌝ }
     {
-        if self.id.0 < 1 {
-            return false;
-        }
-        if self.id.0 > 0xFF_FEFF {
+        let id = self.id;
+        if !id.is_node_id() {
             return false;
         }
         if self.kind < 1 {

@@ -6,17 +6,8 @@ use Rattle.board.specs.Drive.{motionWithin}
 use Rattle.board.proofs.drive.motion_within.Statement.{statement}
 use Rattle.board.proofs.drive.motion_within.Tie as tie
 
-enum-told : tie.Need-enum-told
-enum-told c = search needs
-
-enum-known-motion : tie.Need-enum-known-motion
-enum-known-motion c = search needs
-
-returns : tie.Need-returns
-returns c = search needs
-
 returns-2 : tie.Need-returns-2
 returns-2 c = sym (ap (motionWithin (c .before .before .before .before .before .args .travel)) (c .before .before .before .motion .given .1))
 
 pub motion-within-spec : {M : Type 1} → statement M
-motion-within-spec = tie.close (tie.spec enum-told enum-known-motion returns returns-2)
+motion-within-spec = tie.close (tie.spec (λ c. search needs) (λ c. search needs) (λ c. search needs) returns-2)

@@ -5,20 +5,11 @@ use borrow.Author.Tests.{eq-eqb, ne-eqb}
 use Rattle.board.proofs.drive.reached.Statement.{statement}
 use Rattle.board.proofs.drive.reached.Tie as tie
 
-enum-told : tie.Need-enum-told
-enum-told c = search needs
-
-enum-known-motion : tie.Need-enum-known-motion
-enum-known-motion c = search needs
-
 returns : tie.Need-returns
 returns c = rw (c .before .before .before .before .motion .given .1) (simp (eq-eqb _ _ (c .before .before .if1 .taken)))
-
-returns-2 : tie.Need-returns-2
-returns-2 c = search needs
 
 returns-3 : tie.Need-returns-3
 returns-3 c = rw (c .before .before .before .before .motion .given .1) (simp (ne-eqb _ _ (c .before .before .if1 .left)))
 
 pub reached-spec : {M : Type 1} → statement M
-reached-spec = tie.close (tie.spec enum-told enum-known-motion returns returns-2 returns-3)
+reached-spec = tie.close (tie.spec (λ c. search needs) (λ c. search needs) returns (λ c. search needs) returns-3)

@@ -5,27 +5,15 @@ use mathlib.Core.Path.{_∙_, sym, ap}
 use Rattle.meaning.specs.Chosen.{found-false, found-true}
 use Rattle.board.specs.Node.{withDrive}
 use Rattle.board.specs.Events.{done}
-use Rattle.board.proofs.EventRows.{blocked-broken, blocked-refused, blocked-done}
+use Rattle.board.proofs.EventRows.{blocked-at}
 use Rattle.board.proofs.events.blocked.Statement.{statement}
 use Rattle.board.proofs.events.blocked.Tie as tie
-
-is-sound-requires : tie.Need-is-sound-requires
-is-sound-requires c κs = search needs
-
-refused-requires : tie.Need-refused-requires
-refused-requires c κs = search needs
 
 returns : tie.Need-returns
 returns c =
     let b = c .before .before in
     let x = b .before .args in
-    c .refused .ensures ∙ sym (blocked-broken (x .node) (found-false (b .is-sound .ensures) (c .before .if1 .taken)) (x .cause))
-
-blocks-requires : tie.Need-blocks-requires
-blocks-requires c κs = search needs
-
-refused-requires-2 : tie.Need-refused-requires-2
-refused-requires-2 c κs = search needs
+    c .refused .ensures ∙ sym (blocked-at (x .node) 0 (x .cause) (found-false (b .is-sound .ensures) (c .before .if1 .taken)))
 
 returns-2 : tie.Need-returns-2
 returns-2 c =
@@ -33,19 +21,7 @@ returns-2 c =
     let b = k .before in
     let x = b .before .before .args in
     c .refused2 .ensures
-    ∙ sym (blocked-refused (x .node)
-    (found-true (b .before .is-sound .ensures) (b .if1 .left))
-    (x .cause)
-    (found-false (k .blocks2 .ensures) (c .before .if2 .taken)))
-
-blocked-by-requires : tie.Need-blocked-by-requires
-blocked-by-requires c κs = search needs
-
-with-drive-requires : tie.Need-with-drive-requires
-with-drive-requires c κs = search needs
-
-done-requires : tie.Need-done-requires
-done-requires c κs = search needs
+    ∙ sym (blocked-at (x .node) 1 (x .cause) (found-true (b .before .is-sound .ensures) (b .if1 .left), found-false (k .blocks2 .ensures) (c .before .if2 .taken)))
 
 returns-3 : tie.Need-returns-3
 returns-3 c =
@@ -54,22 +30,19 @@ returns-3 c =
     let x = b .before .before .args in
     c .done .ensures
     ∙ ap done (c .before .with-drive .ensures ∙ ap (withDrive (x .node)) (c .before .before .blocked-by .ensures))
-    ∙ sym (blocked-done (x .node)
-    (found-true (b .before .is-sound .ensures) (b .if1 .left))
-    (x .cause)
-    (found-true (k .blocks2 .ensures) (c .before .before .before .before .if2 .left)))
+    ∙ sym (blocked-at (x .node) 2 (x .cause) (found-true (b .before .is-sound .ensures) (b .if1 .left), (found-true (k .blocks2 .ensures) (c .before .before .before .before .if2 .left), tt)))
 
 pub blocked-spec : {M : Type 1} → statement M
 blocked-spec =
     tie.close
     (tie.spec
-    is-sound-requires
-    refused-requires
+    (λ c κs. search needs)
+    (λ c κs. search needs)
     returns
-    blocks-requires
-    refused-requires-2
+    (λ c κs. search needs)
+    (λ c κs. search needs)
     returns-2
-    blocked-by-requires
-    with-drive-requires
-    done-requires
+    (λ c κs. search needs)
+    (λ c κs. search needs)
+    (λ c κs. search needs)
     returns-3)

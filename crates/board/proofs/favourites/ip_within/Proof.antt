@@ -6,17 +6,8 @@ use Rattle.board.specs.Favourites.{ipWithin}
 use Rattle.board.proofs.favourites.ip_within.Statement.{statement}
 use Rattle.board.proofs.favourites.ip_within.Tie as tie
 
-enum-told : tie.Need-enum-told
-enum-told c = search needs
-
-enum-known-ip : tie.Need-enum-known-ip
-enum-known-ip c = search needs
-
-returns : tie.Need-returns
-returns c = search needs
-
 returns-2 : tie.Need-returns-2
 returns-2 c = sym (ap (ipWithin (c .before .before .before .before .before .args .travel)) (c .before .before .before .ip .given .1))
 
 pub ip-within-spec : {M : Type 1} → statement M
-ip-within-spec = tie.close (tie.spec enum-told enum-known-ip returns returns-2)
+ip-within-spec = tie.close (tie.spec (λ c. search needs) (λ c. search needs) (λ c. search needs) returns-2)

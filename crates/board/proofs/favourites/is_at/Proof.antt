@@ -7,17 +7,8 @@ use Rattle.board.specs.Favourites.{isAt}
 use Rattle.board.proofs.favourites.is_at.Statement.{statement}
 use Rattle.board.proofs.favourites.is_at.Tie as tie
 
-enum-told : tie.Need-enum-told
-enum-told c = search needs
-
-enum-known-ip : tie.Need-enum-known-ip
-enum-known-ip c = search needs
-
-returns : tie.Need-returns
-returns c = search needs
-
 returns-2 : tie.Need-returns-2
 returns-2 c = sym (ap (λ (i : Ip). isAt i (c .before .before .before .before .before .args .position)) (c .before .before .before .ip .given .1))
 
 pub is-at-spec : {M : Type 1} → statement M
-is-at-spec = tie.close (tie.spec enum-told enum-known-ip returns returns-2)
+is-at-spec = tie.close (tie.spec (λ c. search needs) (λ c. search needs) (λ c. search needs) returns-2)

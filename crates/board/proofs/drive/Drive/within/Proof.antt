@@ -8,11 +8,8 @@ use Rattle.board.proofs.drive.Drive.within.Tie as tie
 returns : tie.Need-returns
 returns c = simp (lt-leb _ _ (c .if1 .taken))
 
-motion-within-requires : tie.Need-motion-within-requires
-motion-within-requires c κs = search needs
-
 returns-2 : tie.Need-returns-2
 returns-2 c = simp (le-leb _ _ (c .before .if1 .left), c .motion-within .ensures)
 
 pub within-spec : {M : Type 1} → statement M
-within-spec = tie.close (tie.spec returns motion-within-requires returns-2)
+within-spec = tie.close (tie.spec returns (λ c κs. search needs) returns-2)

@@ -32,24 +32,6 @@ loop-holds : tie.Need-loop-holds Inv-loop μ-loop
 unfolding sharedTo
 loop-holds c = (omega arith, refl, refl)
 
-cast-place : tie.Need-cast-place Inv-loop μ-loop
-cast-place c = search needs
-
-add-number : tie.Need-add-number Inv-loop μ-loop
-add-number c = search needs
-
-shared-ip-requires : tie.Need-shared-ip-requires Inv-loop μ-loop
-shared-ip-requires c κs = search needs
-
-mul-slots : tie.Need-mul-slots Inv-loop μ-loop
-mul-slots c = search needs
-
-array-set-from-slots : tie.Need-array-set-from-slots Inv-loop μ-loop
-array-set-from-slots c = search needs
-
-loop-less : tie.Need-loop-less Inv-loop μ-loop
-loop-less c = search needs
-
 loop-again : tie.Need-loop-again Inv-loop μ-loop
 loop-again c =
     let l = c .before .before in
@@ -72,11 +54,11 @@ shared-out-spec =
     Inv-loop
     μ-loop
     loop-holds
-    cast-place
-    add-number
-    shared-ip-requires
-    mul-slots
-    array-set-from-slots
-    loop-less
+    (λ c. search needs)
+    (λ c. search needs)
+    (λ c κs. search needs)
+    (λ c. search needs)
+    (λ c. search needs)
+    (λ c. search needs)
     loop-again
     returns)

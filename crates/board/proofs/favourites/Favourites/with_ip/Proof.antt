@@ -11,18 +11,9 @@ returns c = simp (lt-leb _ _ (c .if1 .taken))
 returns-2 : tie.Need-returns-2
 returns-2 c = simp (le-leb _ _ (c .before .before .if1 .left), lt-leb _ _ (c .if2 .taken))
 
-cast-place : tie.Need-cast-place
-cast-place c = search needs
-
-mul-t9 : tie.Need-mul-t9
-mul-t9 c = search needs
-
-element-set-from-favourites : tie.Need-element-set-from-favourites
-element-set-from-favourites c = search needs
-
 returns-3 : tie.Need-returns-3
 returns-3 c = simp (le-leb _ _ (c .before .before .before .if1 .left), le-leb _ _ (c .before .if2 .left))
 
 pub with-ip-spec : {M : Type 1} → statement M
 with-ip-spec =
-    tie.close (tie.spec returns returns-2 cast-place mul-t9 element-set-from-favourites returns-3)
+    tie.close (tie.spec returns returns-2 (λ c. search needs) (λ c. search needs) (λ c. search needs) returns-3)

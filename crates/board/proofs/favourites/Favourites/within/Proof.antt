@@ -53,21 +53,6 @@ sixteen c = simp length-map at (c .good .0 .1 .1 .0 .1 .0 .1)
 loop-holds : tie.Need-loop-holds Inv-loop μ-loop
 loop-holds c = (omega arith, refl)
 
-mul-slot : tie.Need-mul-slot Inv-loop μ-loop
-mul-slot c = search needs
-
-element-copy-out-slot : tie.Need-element-copy-out-slot Inv-loop μ-loop
-element-copy-out-slot c = search needs
-
-ip-within-requires : tie.Need-ip-within-requires Inv-loop μ-loop
-ip-within-requires c κs = search needs
-
-add-place : tie.Need-add-place Inv-loop μ-loop
-add-place c = search needs
-
-loop-less : tie.Need-loop-less Inv-loop μ-loop
-loop-less c = search needs
-
 loop-again : tie.Need-loop-again Inv-loop μ-loop
 loop-again c =
     let s = c .before .before .before .before in
@@ -100,10 +85,10 @@ within-spec =
     Inv-loop
     μ-loop
     loop-holds
-    mul-slot
-    element-copy-out-slot
-    ip-within-requires
-    add-place
-    loop-less
+    (λ c. search needs)
+    (λ c. search needs)
+    (λ c κs. search needs)
+    (λ c. search needs)
+    (λ c. search needs)
     loop-again
     returns)

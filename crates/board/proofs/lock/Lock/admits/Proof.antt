@@ -7,8 +7,5 @@ use Rattle.board.proofs.lock.Lock.admits.Tie as tie
 returns : tie.Need-returns
 returns c = simp (c .before .if1 .taken)
 
-returns-2 : tie.Need-returns-2
-returns-2 c = search needs
-
 pub admits-spec : {M : Type 1} → statement M
-admits-spec = tie.close (tie.spec returns returns-2)
+admits-spec = tie.close (tie.spec returns (λ c. search needs))

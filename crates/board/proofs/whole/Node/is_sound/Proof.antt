@@ -7,17 +7,11 @@ use Rattle.board.proofs.StateRows.{by-settings, by-drive, by-ips, by-ho
 use Rattle.board.proofs.whole.Node.is_sound.Statement.{statement}
 use Rattle.board.proofs.whole.Node.is_sound.Tie as tie
 
-in-range-requires : tie.Need-in-range-requires
-in-range-requires c κs = search needs
-
 returns : tie.Need-returns
 returns c =
     let b = c .before in
     let n = b .before .before .before .before .before .before .args .self in
     sym (by-settings n (found-false (b .in-range .ensures) (c .if1 .taken)))
-
-within-requires : tie.Need-within-requires
-within-requires c κs = search needs
 
 returns-2 : tie.Need-returns-2
 returns-2 c =
@@ -27,9 +21,6 @@ returns-2 c =
     sym (by-drive n
     (found-true (a .in-range .ensures) (b .before .if1 .left))
     (found-false (b .within .ensures) (c .if2 .taken)))
-
-within-requires-2 : tie.Need-within-requires-2
-within-requires-2 c κs = search needs
 
 returns-3 : tie.Need-returns-3
 returns-3 c =
@@ -57,10 +48,10 @@ pub is-sound-spec : {M : Type 1} → statement M
 is-sound-spec =
     tie.close
     (tie.spec
-    in-range-requires
+    (λ c κs. search needs)
     returns
-    within-requires
+    (λ c κs. search needs)
     returns-2
-    within-requires-2
+    (λ c κs. search needs)
     returns-3
     returns-4)

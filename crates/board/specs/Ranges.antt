@@ -1,0 +1,29 @@
+-- Rows 32 and 33 in the paper's words: when settings, and a board whole, are in range.
+-- Assumes nothing.
+use Prim.Native.Nat.{ℕ, _≤_}
+use mathlib.Core.Path.{_≡_}
+use lib.ListN.{getD}
+use Rattle.travel.specs.declared.Pulse.{Pulse}
+use Rattle.board.specs.Favourites.{slot}
+use Rattle.board.specs.declared.drive.Motion.the-variants.{Running}
+use Rattle.board.specs.declared.favourites.Ip.the-variants.{Unset, At}
+use Rattle.board.specs.declared.settings.Settings.{Settings}
+use Rattle.board.specs.declared.whole.Node.{Node}
+
+-- Row 32. A travel is 16 bits, so that 65,535 bounds it by its type.
+pub record SettingsInRange (s : Settings) : Type 0 where
+  pub NodeID-from-000001h : 0x000001 ≤ s .id .0
+  pub NodeID-to-FFFEFFh : s .id .0 ≤ 0xFFFEFF
+  pub type-from-1 : 1 ≤ s .kind
+  pub type-to-15 : s .kind ≤ 15
+  pub travel-from-100 : 100 ≤ s .travel .0
+
+-- Row 33. A target is held only while the motor runs, and an IP only where it is set.
+pub record BoardInRange (n : Node) : Type 0 where
+  pub settings-in-range : SettingsInRange (n .settings)
+  pub position-within-the-travel : n .drive .position .0 ≤ n .settings .travel .0
+  pub target-within-the-travel : (target : Pulse) → n .drive .motion ≡ Running target
+      → target .0 ≤ n .settings .travel .0
+  pub every-IP-within-the-travel : (place : ℕ) (p : Pulse) → getD (n .favourites .slots) place (slot Unset) .ip ≡ At p
+      → p .0 ≤ n .settings .travel .0
+  pub holder-to-FFFFFFh : n .lock .holder .0 ≤ 0xFFFFFF
