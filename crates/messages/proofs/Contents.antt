@@ -1,47 +1,128 @@
--- Every POST fits a frame, for values that fit their types.
+-- What is said has at most 20 bytes of DATA; of numbers that fit their types, each of them is a byte.
 -- Assumes nothing.
-use Prim.Native.Nat.{ℕ, suc, _+_, _/_, _%_, _≤_, _<_}
+use Prim.Native.Nat.{ℕ, zero, suc, _+_, _/_, _%_, _≤_, _<_}
 use native.Mathlib.Omega.{arith}
-use mathlib.Core.Path.{_≡_}
-use mathlib.Core.Bool.{Bool, true, not}
+use native.Mathlib.Nat.{le-of-suc-le-suc}
+use mathlib.Core.Path.{_≡_, refl, sym, subst}
+use mathlib.Core.Bool.{Bool, true, false}
 use mathlib.Core.List.{List, [], _∷_}
-use borrow.Author.Tests.{leb-true, ltb-false, not-false}
-use lib.Dec.{eqb, leb, ltb}
-use lib.ListN.{length, getD}
+use borrow.Author.Tests.{leb-true}
+use lib.Dec.{leb}
+use lib.ListN.{length, getD, take, replicate, drop}
+use lib.Seq.{take-at}
+use Rattle.meaning.specs.Bytes.{Bytes}
+use Rattle.meaning.specs.Cases.{both}
 use Rattle.meaning.specs.Choice.{either}
-use Rattle.frame.specs.declared.header.Header.{Header}
+use Rattle.frame.specs.declared.address.Address.{Address}
 use Rattle.travel.specs.Units.{ip}
 use Rattle.travel.specs.Position.{percentOfPulse, percent-at-most-100}
 use Rattle.travel.specs.declared.Pulse.{Pulse}
+use Rattle.board.specs.Drive.{isRunning}
 use Rattle.board.specs.Favourites.{ipAt, isAt, isNumber, firstAt, reportedIp}
+use Rattle.board.specs.Groups.{Groups}
 use Rattle.board.specs.Node.{sound, statusOf}
+use Rattle.board.specs.Typed.{Typed, TypedTable}
 use Rattle.board.specs.declared.favourites.Ip.{Ip}
 use Rattle.board.specs.declared.favourites.Ip.the-variants.{Unset, At}
 use Rattle.board.specs.declared.favourites.Slot.{Slot}
+use Rattle.board.specs.declared.groups.Change.{Change}
+use Rattle.board.specs.declared.groups.Change.the-variants.{Keep, Put}
 use Rattle.board.specs.declared.whole.Node.{Node}
-use Rattle.board.proofs.Within.{both, position-within}
+use Rattle.board.proofs.Within.{position-within}
 use Rattle.board.proofs.Sound.{parts-of}
-use Rattle.turn.specs.Turn.{Groups}
-use Rattle.turn.specs.Replies.{Outcome, acts, posts, refuses}
-use Rattle.turn.proofs.Answered.{Sayable, Fit, no-bytes, one-more-byte}
-use Rattle.messages.specs.Fields.{byteAt, holds, bit}
-use Rattle.messages.specs.Ips.{percentOr}
-use Rattle.board.specs.Drive.{isRunning}
-use Rattle.messages.specs.Table.{outcomeOf, stopRow, moveRow, setIpRow, setLockRow, setGroupRow, positionRow, statusRow, ipRow, lockRow, addressRow, groupRow}
-use Rattle.messages.proofs.ActingRows.{PostsNothing, stop-posts-nothing, move-posts-nothing, set-ip-posts-nothing, set-lock-posts-nothing, set-group-posts-nothing}
+use Rattle.messages.specs.Code.{codeOf}
+use Rattle.messages.specs.declared.code.Code.{Code}
+use Rattle.messages.specs.declared.outcome.Outcome.{Outcome}
+use Rattle.messages.specs.Fields.{byteAt, bit}
+use Rattle.messages.specs.Outcome.{inTwenty, contentOf, acts, posts, refuses}
+use Rattle.messages.specs.Motor.{
+  stopCodes,
+  stopped,
+  stopRow,
+  aimIn,
+  targetOf,
+  moveCodes,
+  moved,
+  moveRow,
+  positionData,
+  positionRow,
+  statusData,
+  statusRow,
+}
+use Rattle.messages.specs.Ips.{orderIn, ordered, setIpCodes, keepingIps, setIpRow, percentOr, ipCodes, ipData, ipRow}
+use Rattle.messages.specs.Locking.{setLockCodes, lockedBy, setLockRow, lockData, lockRow}
+use Rattle.messages.specs.Addresses.{addressRow, groupCodes, groupData, groupRow, setGroupRow}
+use Rattle.messages.specs.Table.{outcomeOf}
+use Rattle.messages.proofs.Messages.{EachRow, every-message, or-refused}
 
--- The node's numbers fit their types, as those of every node of the code do.
-pub record Typed (n : Node) : Type 0 where
-  pub travel-fits : n .settings .travel .0 < 65536
-  pub direction-fits : n .drive .direction < 256
-  pub source-fits : n .drive .source < 256
-  pub cause-fits : n .drive .cause < 256
-  pub priority-fits : n .lock .priority < 256
-  pub sixteen-slots : length (n .favourites .slots) ≡ 16
+-- ---- what is done alone, and what is told
+-- What holds of every outcome that is carried out, of every refusal and of what each GET tells holds of whatever a message comes to.
+pub record Told (P : Outcome → Type 0) (n : Node) (groups : Groups) (d : List ℕ) : Type 0 where
+  pub done : (after : Node) (change : Change) → P (acts after change)
+  pub refused : (code : Code) → P (refuses n code)
+  pub position : P (posts n 0x0D (positionData n))
+  pub status : P (posts n 0x0F (statusData n))
+  pub ip : isNumber (ip (byteAt d 0)) ≡ true → P (posts n 0x35 (ipData n (ip (byteAt d 0))))
+  pub lock : P (posts n 0x36 (lockData n))
+  pub address : P (posts n 0x60 [])
+  pub group : byteAt d 0 ≤ 15 → P (posts n 0x61 (groupData groups (byteAt d 0)))
 
--- So do the bytes of the group table.
-abbrev pub TypedTable : Groups → Type 0
-TypedTable groups = (index place : ℕ) → byteAt (getD groups index []) place < 256
+pub all-told : (P : Outcome → Type 0) (n : Node) (groups : Groups) (source : Address) (m : ℕ) (d : List ℕ)
+    → Told P n groups d → P (outcomeOf n groups source m d)
+unfolding stopRow moveRow setIpRow ipRow setLockRow groupRow setGroupRow positionRow statusRow lockRow addressRow
+all-told P n groups source m d t =
+    every-message P n groups source m d
+    (record {
+      stop = or-refused P n (t .refused) (stopCodes n d) (stopped n) (λ p. t .done _ _);
+      move = or-refused P n (t .refused) (moveCodes n d (aimIn d)) (moved n (targetOf n (aimIn d))) (λ p. t .done _ _);
+      position = t .position;
+      status = t .status;
+      set-ip = or-refused P n (t .refused) (setIpCodes n d (orderIn d)) (keepingIps n (ordered n (orderIn d))) (λ p. t .done _ _);
+      ip = or-refused P n (t .refused) (ipCodes d (ip (byteAt d 0))) (posts n 0x35 (ipData n (ip (byteAt d 0)))) (λ p. t .ip (p .1 .0));
+      set-lock =
+          or-refused P n (t .refused) (setLockCodes n d (byteAt d 0) (byteAt d 1)) (acts (lockedBy n source (byteAt d 0) (byteAt d 1)) Keep) (λ p. t .done _ _);
+      lock = t .lock;
+      address = t .address;
+      group = or-refused P n (t .refused) (groupCodes 1 d (byteAt d 0)) (posts n 0x61 (groupData groups (byteAt d 0))) (λ p. t .group (p .1 .0));
+      set-group =
+          or-refused P n (t .refused) (groupCodes 4 d (byteAt d 0)) (acts n (Put (byteAt d 0) (byteAt d 1) (byteAt d 2) (byteAt d 3))) (λ p. t .done _ _);
+      unknown = t .refused Code.UnknownMessage;
+    })
+
+-- ---- the count
+pub at-most-20-bytes : (n : Node) (groups : Groups) (source : Address) (m : ℕ) (d : List ℕ) → outcomeOf n groups source m d .count ≤ 20
+at-most-20-bytes n groups source m d =
+    all-told (λ (o : Outcome). o .count ≤ 20) n groups source m d
+    (record {
+      done = λ after change. omega arith;
+      refused = λ code. omega arith;
+      position = omega arith;
+      status = omega arith;
+      ip = λ e. omega arith;
+      lock = omega arith;
+      address = omega arith;
+      group = λ e. omega arith;
+    })
+
+-- ---- the bytes
+pub content-is : (content : List ℕ) → take (length content) (inTwenty content) ≡ content
+content-is content = take-at content (drop (length content) (replicate 20 0)) (length content) refl
+
+pub no-bytes : Bytes []
+no-bytes i h = absurd (omega arith)
+
+pub one-more-byte : (x : ℕ) (l : List ℕ) → x < 256 → Bytes l → Bytes (x ∷ l)
+one-more-byte x l h b zero g = h
+one-more-byte x l h b (suc i) g = b i (le-of-suc-le-suc g)
+
+pub code-fits : (code : Code) → codeOf code < 256
+code-fits Code.UnknownMessage = omega arith
+code-fits Code.TooLittleData = omega arith
+code-fits Code.OutOfRange = omega arith
+code-fits Code.Locked = omega arith
+code-fits Code.PriorityTooLow = omega arith
+code-fits Code.Blocked = omega arith
+code-fits Code.IpNotSet = omega arith
 
 first-at-fits : (number : ℕ) (l : List Slot) (p : Pulse) → number + length l ≤ 256 → firstAt number l p < 256
 unfolding firstAt
@@ -65,100 +146,56 @@ status-fits n =
     either (λ (k : ℕ). k < 256) (n .drive .blocked) (λ f. omega arith) λ f.
     either (λ (k : ℕ). k < 256) (isRunning (n .drive .motion)) (λ g. omega arith) (λ g. omega arith)
 
--- Where nothing is posted, nothing has to fit.
-says-nothing : (o : Outcome) → PostsNothing o → Sayable o
-says-nothing (acts after change) p = tt
-says-nothing (posts m content) p = absurd p
-says-nothing (refuses code) p = tt
-
 -- DATA of four bytes.
-four : (message a b c d : ℕ) → message < 255 → a < 256 → b < 256 → c < 256 → d < 256 → Fit message (a ∷ b ∷ c ∷ d ∷ [])
-four message a b c d m h i j k =
-    record {
-      named = m;
-      few = omega arith;
-      bytes = one-more-byte a (b ∷ c ∷ d ∷ []) h (one-more-byte b (c ∷ d ∷ []) i (one-more-byte c (d ∷ []) j (one-more-byte d [] k no-bytes)));
-    }
+four : (a b c d : ℕ) → a < 256 → b < 256 → c < 256 → d < 256 → Bytes (a ∷ b ∷ c ∷ d ∷ [])
+four a b c d h i j k =
+    one-more-byte a (b ∷ c ∷ d ∷ []) h (one-more-byte b (c ∷ d ∷ []) i (one-more-byte c (d ∷ []) j (one-more-byte d [] k no-bytes)))
 
 module _ (n : Node) (s : sound n ≡ true) (t : Typed n) where
-  position-fits : Sayable (positionRow n)
-  unfolding positionRow
-  position-fits =
+  position-bytes : Bytes (positionData n)
+  position-bytes =
       let p = n .drive .position in
       let h = position-within (n .settings .travel) (n .drive) (parts-of n s .drive-within) in
       let found = reportedIp (n .favourites) p in
       let percent = percentOfPulse p (n .settings .travel) .0 in
       let e = t .sixteen-slots in
-      record {
-        named = omega arith;
-        few = omega arith;
-        bytes =
-            one-more-byte (p .0 % 256) (p .0 / 256 ∷ percent ∷ 0xFF ∷ found ∷ []) (omega arith)
-            (one-more-byte (p .0 / 256) (percent ∷ 0xFF ∷ found ∷ []) (omega (arith, t .travel-fits))
-            (one-more-byte percent (0xFF ∷ found ∷ []) (percent-fits p (n .settings .travel))
-            (one-more-byte 0xFF (found ∷ []) (omega arith)
-            (one-more-byte found [] (first-at-fits 1 (n .favourites .slots) p (omega arith)) no-bytes))));
-      }
+      one-more-byte (p .0 % 256) (p .0 / 256 ∷ percent ∷ 0xFF ∷ found ∷ []) (omega arith)
+      (four (p .0 / 256) percent 0xFF found (omega (arith, t .travel-fits)) (percent-fits p (n .settings .travel)) (omega arith)
+      (first-at-fits 1 (n .favourites .slots) p (omega arith)))
 
-  status-row-fits : Sayable (statusRow n)
-  unfolding statusRow
-  status-row-fits =
-      four 0x0F (statusOf n) (n .drive .direction) (n .drive .source) (n .drive .cause) (omega arith) (status-fits n) (t .direction-fits) (t .source-fits) (t .cause-fits)
-
-  lock-fits : Sayable (lockRow n)
-  unfolding lockRow
-  lock-fits =
+  lock-bytes : Bytes (lockData n)
+  lock-bytes =
       let a = n .lock .holder .0 in
       let priority = n .lock .priority in
-      let on = bit (n .lock .locked) in
       let saved = bit (n .lock .saved) in
-      record {
-        named = omega arith;
-        few = omega arith;
-        bytes =
-            one-more-byte on (a % 256 ∷ a / 256 % 256 ∷ a / 65536 % 256 ∷ priority ∷ saved ∷ []) (bit-fits (n .lock .locked))
-            (one-more-byte (a % 256) (a / 256 % 256 ∷ a / 65536 % 256 ∷ priority ∷ saved ∷ []) (omega arith)
-            (one-more-byte (a / 256 % 256) (a / 65536 % 256 ∷ priority ∷ saved ∷ []) (omega arith)
-            (one-more-byte (a / 65536 % 256) (priority ∷ saved ∷ []) (omega arith)
-            (one-more-byte priority (saved ∷ []) (t .priority-fits) (one-more-byte saved [] (bit-fits (n .lock .saved)) no-bytes)))));
-      }
+      one-more-byte (bit (n .lock .locked)) (a % 256 ∷ a / 256 % 256 ∷ a / 65536 % 256 ∷ priority ∷ saved ∷ []) (bit-fits (n .lock .locked))
+      (one-more-byte (a % 256) (a / 256 % 256 ∷ a / 65536 % 256 ∷ priority ∷ saved ∷ []) (omega arith)
+      (four (a / 256 % 256) (a / 65536 % 256) priority saved (omega arith) (omega arith) (t .priority-fits) (bit-fits (n .lock .saved))))
 
-  address-fits : Sayable addressRow
-  unfolding addressRow
-  address-fits = record { named = omega arith; few = omega arith; bytes = no-bytes }
+  ip-bytes : (index : ℕ) → isNumber (ip index) ≡ true → Bytes (ipData n (ip index))
+  ip-bytes index e =
+      let most = leb-true index 16 (both (leb 1 index) (leb index 16) e .1) in
+      four index 0xFF 0xFF (percentOr (ipAt (n .favourites) (ip index)) (n .settings .travel))
+      (omega arith) (omega arith) (omega arith) (percent-or-fits (ipAt (n .favourites) (ip index)) (n .settings .travel))
 
-  ip-fits : (d : List ℕ) → Sayable (ipRow n d)
-  unfolding ipRow
-  ip-fits d =
-      let index = byteAt d 0 in
-      either Sayable (not (holds 1 d)) (λ e. tt) λ e.
-      either Sayable (not (isNumber (ip index))) (λ f. tt) λ f.
-      let number = both (leb 1 index) (leb index 16) (not-false (isNumber (ip index)) f) in
-      let most = leb-true index 16 (number .1) in
-      four 0x35 index 0xFF 0xFF (percentOr (ipAt (n .favourites) (ip index)) (n .settings .travel))
-      (omega arith) (omega arith) (omega arith) (omega arith) (percent-or-fits (ipAt (n .favourites) (ip index)) (n .settings .travel))
+  told : (P : List ℕ → Type 0) (content : List ℕ) → P content → P (take (length content) (inTwenty content))
+  told P content b = subst P (sym (content-is content)) b
 
-  group-fits : (groups : Groups) (d : List ℕ) → TypedTable groups → Sayable (groupRow groups d)
-  unfolding groupRow
-  group-fits groups d g =
-      let index = byteAt d 0 in
-      let entry = getD groups index [] in
-      either Sayable (not (holds 1 d)) (λ e. tt) λ e.
-      either Sayable (ltb 15 index) (λ f. tt) λ f.
-      four 0x61 index (byteAt entry 0) (byteAt entry 1) (byteAt entry 2)
-      (omega arith) (omega (arith, ltb-false 15 index f)) (g index 0) (g index 1) (g index 2)
-
-  pub every-post-fits-a-frame : (groups : Groups) (h : Header) (d : List ℕ) → TypedTable groups → Sayable (outcomeOf n groups h d)
-  unfolding outcomeOf
-  every-post-fits-a-frame groups h d g =
-      either Sayable (eqb (h .message) 0x02) (λ e. says-nothing (stopRow n d) (stop-posts-nothing n d)) λ e.
-      either Sayable (eqb (h .message) 0x03) (λ e. says-nothing (moveRow n d) (move-posts-nothing n d)) λ e.
-      either Sayable (eqb (h .message) 0x0C) (λ e. position-fits) λ e.
-      either Sayable (eqb (h .message) 0x0E) (λ e. status-row-fits) λ e.
-      either Sayable (eqb (h .message) 0x15) (λ e. says-nothing (setIpRow n d) (set-ip-posts-nothing n d)) λ e.
-      either Sayable (eqb (h .message) 0x25) (λ e. ip-fits d) λ e.
-      either Sayable (eqb (h .message) 0x16) (λ e. says-nothing (setLockRow n (h .source) d) (set-lock-posts-nothing n h d)) λ e.
-      either Sayable (eqb (h .message) 0x26) (λ e. lock-fits) λ e.
-      either Sayable (eqb (h .message) 0x40) (λ e. address-fits) λ e.
-      either Sayable (eqb (h .message) 0x41) (λ e. group-fits groups d g) λ e.
-      either Sayable (eqb (h .message) 0x51) (λ e. says-nothing (setGroupRow n d) (set-group-posts-nothing n d)) (λ e. tt)
+  pub all-bytes : (groups : Groups) → TypedTable groups → (source : Address) (m : ℕ) (d : List ℕ) → Bytes (contentOf (outcomeOf n groups source m d))
+  all-bytes groups g source m d =
+      all-told (λ (o : Outcome). Bytes (contentOf o)) n groups source m d
+      (record {
+        done = λ after change. told Bytes [] no-bytes;
+        refused = λ code. told Bytes (codeOf code ∷ []) (one-more-byte (codeOf code) [] (code-fits code) no-bytes);
+        position = told Bytes (positionData n) position-bytes;
+        status =
+            told Bytes (statusData n)
+            (four (statusOf n) (n .drive .direction) (n .drive .source) (n .drive .cause) (status-fits n) (t .direction-fits) (t .source-fits) (t .cause-fits));
+        ip = λ e. told Bytes (ipData n (ip (byteAt d 0))) (ip-bytes (byteAt d 0) e);
+        lock = told Bytes (lockData n) lock-bytes;
+        address = told Bytes [] no-bytes;
+        group = λ e.
+            let entry = getD groups (byteAt d 0) [] in
+            told Bytes (groupData groups (byteAt d 0))
+            (four (byteAt d 0) (byteAt entry 0) (byteAt entry 1) (byteAt entry 2) (omega arith) (g (byteAt d 0) 0) (g (byteAt d 0) 1) (g (byteAt d 0) 2));
+      })

@@ -3,6 +3,6 @@ pub mod Orders
 pub mod Messages
 pub mod Gets
 pub mod States
-pub mod ActingRows
 pub mod Contents
+pub mod Fitting
 pub mod Determined

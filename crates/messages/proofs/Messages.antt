@@ -1,75 +1,98 @@
--- The message table at each message.
+-- The message table at each message; and what holds of every row holds of whatever a message comes to.
 -- Assumes nothing.
 use Prim.Native.Nat.{ℕ}
 use mathlib.Core.Path.{_≡_}
-use mathlib.Core.List.{List}
-use borrow.Author.Tests.{ne-eqb}
-use Rattle.frame.specs.declared.header.Header.{Header}
+use mathlib.Core.List.{List, [], _∷_}
+use Rattle.meaning.specs.Tables.{Row, _when_, Answers, Passed, of-decided, no-row-applies}
+use Rattle.frame.specs.declared.address.Address.{Address}
+use Rattle.board.specs.Groups.{Groups}
 use Rattle.board.specs.declared.whole.Node.{Node}
-use Rattle.turn.specs.declared.code.Code.{Code}
-use Rattle.turn.specs.Turn.{Groups}
-use Rattle.turn.specs.Replies.{refuses}
-use Rattle.messages.specs.Table.{outcomeOf, stopRow, moveRow, positionRow, statusRow, setIpRow, ipRow, setLockRow, lockRow, addressRow, groupRow, setGroupRow}
+use Rattle.messages.specs.declared.code.Code.{Code}
+use Rattle.messages.specs.declared.outcome.Outcome.{Outcome}
+use Rattle.messages.specs.Outcome.{refuses, refusals, refusing}
+use Rattle.messages.specs.Motor.{stopRow, moveRow, positionRow, statusRow}
+use Rattle.messages.specs.Ips.{setIpRow, ipRow}
+use Rattle.messages.specs.Locking.{setLockRow, lockRow}
+use Rattle.messages.specs.Addresses.{addressRow, groupRow, setGroupRow}
+use Rattle.messages.specs.Table.{messageRows, outcomeOf}
 
-module _ (n : Node) (groups : Groups) (h : Header) (d : List ℕ) where
-  pub at-02 : h .message ≡ 0x02 → outcomeOf n groups h d ≡ stopRow n d
+module _ (n : Node) (groups : Groups) (source : Address) (m : ℕ) (d : List ℕ) where
+  pub at-02 : m ≡ 0x02 → outcomeOf n groups source m d ≡ stopRow n d
   unfolding outcomeOf
   at-02 e = rw e
 
-  pub at-03 : h .message ≡ 0x03 → outcomeOf n groups h d ≡ moveRow n d
+  pub at-03 : m ≡ 0x03 → outcomeOf n groups source m d ≡ moveRow n d
   unfolding outcomeOf
   at-03 e = rw e
 
-  pub at-0C : h .message ≡ 0x0C → outcomeOf n groups h d ≡ positionRow n
+  pub at-0C : m ≡ 0x0C → outcomeOf n groups source m d ≡ positionRow n
   unfolding outcomeOf
   at-0C e = rw e
 
-  pub at-0E : h .message ≡ 0x0E → outcomeOf n groups h d ≡ statusRow n
+  pub at-0E : m ≡ 0x0E → outcomeOf n groups source m d ≡ statusRow n
   unfolding outcomeOf
   at-0E e = rw e
 
-  pub at-15 : h .message ≡ 0x15 → outcomeOf n groups h d ≡ setIpRow n d
+  pub at-15 : m ≡ 0x15 → outcomeOf n groups source m d ≡ setIpRow n d
   unfolding outcomeOf
   at-15 e = rw e
 
-  pub at-25 : h .message ≡ 0x25 → outcomeOf n groups h d ≡ ipRow n d
+  pub at-25 : m ≡ 0x25 → outcomeOf n groups source m d ≡ ipRow n d
   unfolding outcomeOf
   at-25 e = rw e
 
-  pub at-16 : h .message ≡ 0x16 → outcomeOf n groups h d ≡ setLockRow n (h .source) d
+  pub at-16 : m ≡ 0x16 → outcomeOf n groups source m d ≡ setLockRow n source d
   unfolding outcomeOf
   at-16 e = rw e
 
-  pub at-26 : h .message ≡ 0x26 → outcomeOf n groups h d ≡ lockRow n
+  pub at-26 : m ≡ 0x26 → outcomeOf n groups source m d ≡ lockRow n
   unfolding outcomeOf
   at-26 e = rw e
 
-  pub at-40 : h .message ≡ 0x40 → outcomeOf n groups h d ≡ addressRow
+  pub at-40 : m ≡ 0x40 → outcomeOf n groups source m d ≡ addressRow n
   unfolding outcomeOf
   at-40 e = rw e
 
-  pub at-41 : h .message ≡ 0x41 → outcomeOf n groups h d ≡ groupRow groups d
+  pub at-41 : m ≡ 0x41 → outcomeOf n groups source m d ≡ groupRow n groups d
   unfolding outcomeOf
   at-41 e = rw e
 
-  pub at-51 : h .message ≡ 0x51 → outcomeOf n groups h d ≡ setGroupRow n d
+  pub at-51 : m ≡ 0x51 → outcomeOf n groups source m d ≡ setGroupRow n d
   unfolding outcomeOf
   at-51 e = rw e
 
-  pub at-no-row : ¬ (h .message ≡ 0x02) → ¬ (h .message ≡ 0x03) → ¬ (h .message ≡ 0x0C) → ¬ (h .message ≡ 0x0E) → ¬ (h .message ≡ 0x15) → ¬ (h .message ≡ 0x25) → ¬ (h .message ≡ 0x16) → ¬ (h .message ≡ 0x26) → ¬ (h .message ≡ 0x40) → ¬ (h .message ≡ 0x41) → ¬ (h .message ≡ 0x51)
-      → outcomeOf n groups h d ≡ refuses Code.UnknownMessage
+  pub at-no-row : Passed (messageRows n groups source m d) → outcomeOf n groups source m d ≡ refuses n Code.UnknownMessage
   unfolding outcomeOf
-  at-no-row a b c e f g i j k l m =
-      rw (
-        ne-eqb (h .message) 0x02 a,
-        ne-eqb (h .message) 0x03 b,
-        ne-eqb (h .message) 0x0C c,
-        ne-eqb (h .message) 0x0E e,
-        ne-eqb (h .message) 0x15 f,
-        ne-eqb (h .message) 0x25 g,
-        ne-eqb (h .message) 0x16 i,
-        ne-eqb (h .message) 0x26 j,
-        ne-eqb (h .message) 0x40 k,
-        ne-eqb (h .message) 0x41 l,
-        ne-eqb (h .message) 0x51 m,
-      )
+  at-no-row = no-row-applies (messageRows n groups source m d) (refuses n Code.UnknownMessage)
+
+-- What holds of each row of the table.
+pub record EachRow (P : Outcome → Type 0) (n : Node) (groups : Groups) (source : Address) (d : List ℕ) : Type 0 where
+  pub stop : P (stopRow n d)
+  pub move : P (moveRow n d)
+  pub position : P (positionRow n)
+  pub status : P (statusRow n)
+  pub set-ip : P (setIpRow n d)
+  pub ip : P (ipRow n d)
+  pub set-lock : P (setLockRow n source d)
+  pub lock : P (lockRow n)
+  pub address : P (addressRow n)
+  pub group : P (groupRow n groups d)
+  pub set-group : P (setGroupRow n d)
+  pub unknown : P (refuses n Code.UnknownMessage)
+
+pub every-message : (P : Outcome → Type 0) (n : Node) (groups : Groups) (source : Address) (m : ℕ) (d : List ℕ)
+    → EachRow P n groups source d → P (outcomeOf n groups source m d)
+unfolding outcomeOf
+every-message P n groups source m d r =
+    of-decided P (messageRows n groups source m d) (refuses n Code.UnknownMessage)
+    (r .stop, (r .move, (r .position, (r .status, (r .set-ip, (r .ip, (r .set-lock, (r .lock, (r .address, (r .group, (r .set-group, tt)))))))))))
+    (λ none. r .unknown)
+
+-- What holds of every refusal, and of what is done where no code applies, holds of a row.
+module _ (P : Outcome → Type 0) (n : Node) (refused : (code : Code) → P (refuses n code)) where
+  every-refusal : (codes : List (Row Code)) → Answers P (refusals n codes)
+  every-refusal [] = tt
+  every-refusal (code when test ∷ codes) = (refused code, every-refusal codes)
+
+  pub or-refused : (codes : List (Row Code)) (done : Outcome) → (Passed (refusals n codes) → P done) → P (refusing n codes done)
+  or-refused codes done last = of-decided P (refusals n codes) done (every-refusal codes) last

@@ -1,28 +1,25 @@
 // SET_MOTOR_IP, and what is told of an IP.
+use crate::code::Code;
 use crate::fields::holds;
-use crate::fields::word;
+use crate::outcome::Outcome;
+use crate::outcome::acts;
+use crate::outcome::posts;
+use crate::outcome::refuses;
+use board::Change;
 use board::Favourites;
 use board::Ip;
 use board::Node;
-use frame::Header;
 use frame::data_byte;
+use frame::word;
 use travel::IpIndex;
 use travel::Percent;
 use travel::Pulse;
 use travel::percent_of_pulse;
 use travel::pulse_of_percent;
-use turn::Change;
-use turn::Code;
-use turn::Turn;
-use turn::accepted;
-use turn::declined;
-use turn::posted;
 ghost use mathlib.Core.Path.{_≡_};
-ghost use Rattle.board.specs.Favourites.{isNumber};
+ghost use Rattle.board.specs.Favourites.{isNumber, isSet};
 ghost use Rattle.frame.specs.Layout.{dataOf};
-ghost use Rattle.messages.specs.Ips.{orderOf, shareOrder, deletingIp, keepingIps, percentOr};
-ghost use Rattle.turn.specs.Replies.{answered};
-ghost use Rattle.messages.specs.Table.{setIpRow, ipRow};
+ghost use Rattle.messages.specs.Ips.{orderOf, shareOrder, isOrder, findsItsIp, ordered, setIpRow, percentOr, ipRow};
 
 // What SET_MOTOR_IP is to do.
 pub enum Order {
@@ -37,63 +34,46 @@ pub enum Order {
 }
 
 // 15h SET_MOTOR_IP: function, index, value.
-pub(crate) fn set_ip(node: Node, request: Header, bundle: &[u8]) -> Turn
-    ensures { λ r. ⌜ r ≡ answered node request (setIpRow node (dataOf (now (bundle .entry)))) ⌝ }
+pub(crate) fn set_ip(node: Node, bundle: &[u8]) -> Outcome
+    ensures { λ r. ⌜ r ≡ setIpRow node (dataOf (now (bundle .entry))) ⌝ }
 {
     if !holds(bundle, 4) {
-        return declined(node, request, Code::TooLittleData);
+        return refuses(node, Code::TooLittleData);
     }
     let value = word(data_byte(bundle, 2), data_byte(bundle, 3));
     let order = order_of(data_byte(bundle, 0), IpIndex(data_byte(bundle, 1)), value);
-    let position = node.drive.position;
-    let travel = node.settings.travel;
-    let favourites = node.favourites;
-    match order {
-        Order::Delete(index) => delete(node, request, index),
-        Order::Here(index) => keep(node, request, favourites.with_ip(index, Ip::At(position))),
-        Order::AtPercent(index, percent) => {
-            let pulse = pulse_of_percent(percent, travel);
-            keep(node, request, favourites.with_ip(index, Ip::At(pulse)))
-        }
-        Order::Share(n) => keep(node, request, Favourites::shared_out(n, travel)),
-        Order::Nothing => declined(node, request, Code::OutOfRange),
+    if !is_order(order) {
+        return refuses(node, Code::OutOfRange);
     }
+    let favourites = node.favourites;
+    if !finds_its_ip(favourites, order) {
+        return refuses(node, Code::IpNotSet);
+    }
+    let ordered = ordered(node, order);
+    let after = node.with_favourites(ordered);
+    acts(after, Change::Keep)
 }
 
 // 25h, answered 35h: index, reserved, percent or FFh.
-pub(crate) fn post_ip(node: Node, request: Header, bundle: &[u8]) -> Turn
-    ensures { λ r. ⌜ r ≡ answered node request (ipRow node (dataOf (now (bundle .entry)))) ⌝ }
+pub(crate) fn post_ip(node: Node, bundle: &[u8]) -> Outcome
+    ensures { λ r. ⌜ r ≡ ipRow node (dataOf (now (bundle .entry))) ⌝ }
 {
     if !holds(bundle, 1) {
-        return declined(node, request, Code::TooLittleData);
+        return refuses(node, Code::TooLittleData);
     }
     let index = IpIndex(data_byte(bundle, 0));
     if !is_number(index) {
-        return declined(node, request, Code::OutOfRange);
+        return refuses(node, Code::OutOfRange);
     }
     let favourites = node.favourites;
     let travel = node.settings.travel;
     let ip = favourites.ip_at(index);
-    let content = [index.0, 0xFF, 0xFF, percent_or(ip, travel)];
-    posted(node, request, 0x35, &content)
-}
-
-fn delete(node: Node, request: Header, index: IpIndex) -> Turn
-    ensures { λ r. ⌜ r ≡ answered node request (deletingIp node index) ⌝ }
-{
-    let favourites = node.favourites;
-    let ip = favourites.ip_at(index);
-    match ip {
-        Ip::Unset => declined(node, request, Code::IpNotSet),
-        Ip::At(_) => keep(node, request, favourites.with_ip(index, Ip::Unset)),
-    }
-}
-
-fn keep(node: Node, request: Header, favourites: Favourites) -> Turn
-    ensures { λ r. ⌜ r ≡ answered node request (keepingIps node favourites) ⌝ }
-{
-    let after = node.with_favourites(favourites);
-    accepted(node, request, after, Change::Keep)
+    let mut content = [0u8; 20];
+    content[0] = index.0;
+    content[1] = 0xFF;
+    content[2] = 0xFF;
+    content[3] = percent_or(ip, travel);
+    posts(node, 0x35, 4, content)
 }
 
 fn order_of(function: u8, index: IpIndex, value: u16) -> Order
@@ -130,6 +110,59 @@ fn share_of(value: u16) -> Order
         return Order::Nothing;
     }
     Order::Share(value as u8)
+}
+
+fn is_order(order: Order) -> bool
+    ensures { λ r. ⌜ r ≡ isOrder order ⌝ }
+{
+    match order {
+        Order::Delete(_) => true,
+        Order::Here(_) => true,
+        Order::AtPercent(_, _) => true,
+        Order::Share(_) => true,
+        Order::Nothing => false,
+    }
+}
+
+// What is to be deleted has to be set.
+fn finds_its_ip(favourites: Favourites, order: Order) -> bool
+    ensures { λ r. ⌜ r ≡ findsItsIp favourites order ⌝ }
+{
+    match order {
+        Order::Delete(index) => is_set(favourites.ip_at(index)),
+        Order::Here(_) => true,
+        Order::AtPercent(_, _) => true,
+        Order::Share(_) => true,
+        Order::Nothing => true,
+    }
+}
+
+fn is_set(ip: Ip) -> bool
+    ensures { λ r. ⌜ r ≡ isSet ip ⌝ }
+{
+    match ip {
+        Ip::Unset => false,
+        Ip::At(_) => true,
+    }
+}
+
+// The favourites once the order is carried out.
+fn ordered(node: Node, order: Order) -> Favourites
+    ensures { λ r. ⌜ r ≡ ordered node order ⌝ }
+{
+    let favourites = node.favourites;
+    let position = node.drive.position;
+    let travel = node.settings.travel;
+    match order {
+        Order::Delete(index) => favourites.with_ip(index, Ip::Unset),
+        Order::Here(index) => favourites.with_ip(index, Ip::At(position)),
+        Order::AtPercent(index, percent) => {
+            let pulse = pulse_of_percent(percent, travel);
+            favourites.with_ip(index, Ip::At(pulse))
+        }
+        Order::Share(n) => Favourites::shared_out(n, travel),
+        Order::Nothing => favourites,
+    }
 }
 
 fn is_number(index: IpIndex) -> bool

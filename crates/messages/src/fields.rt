@@ -1,7 +1,6 @@
 // The fields of a message's DATA, and of a reply's.
 use frame::data_count;
 ghost use mathlib.Core.Path.{_≡_};
-ghost use Prim.Native.Nat.{_+_, _*_};
 ghost use Rattle.frame.specs.Layout.{dataOf};
 ghost use Rattle.messages.specs.Fields.{holds, bit};
 
@@ -10,13 +9,6 @@ pub(crate) fn holds(bundle: &[u8], least: usize) -> bool
     ensures { λ r. ⌜ r ≡ holds least (dataOf (now (bundle .entry))) ⌝ }
 {
     least <= data_count(bundle)
-}
-
-// Two bytes as one number, the low byte first.
-pub(crate) fn word(low: u8, high: u8) -> u16
-    ensures { λ r. ⌜ r ≡ low + 256 * high ⌝ }
-{
-    low as u16 + 256 * (high as u16)
 }
 
 pub(crate) fn bit(flag: bool) -> u8

@@ -1,90 +1,98 @@
 // SET_NETWORK_LOCK, and what is told of the lock.
+use crate::code::Code;
 use crate::fields::bit;
 use crate::fields::holds;
+use crate::outcome::Outcome;
+use crate::outcome::acts;
+use crate::outcome::posts;
+use crate::outcome::refuses;
+use board::Change;
 use board::Lock;
 use board::Node;
-use frame::Header;
+use frame::Address;
 use frame::data_byte;
-use turn::Change;
-use turn::Code;
-use turn::Turn;
-use turn::accepted;
-use turn::declined;
-use turn::posted;
 ghost use mathlib.Core.Path.{_≡_};
 ghost use Rattle.frame.specs.Layout.{dataOf};
-ghost use Rattle.messages.specs.Locking.{lockingBy, unlockingBy, keepingLock};
-ghost use Rattle.turn.specs.Replies.{answered};
-ghost use Rattle.messages.specs.Table.{setLockRow, lockRow};
+ghost use mathlib.Core.Bool.{not, _&&_};
+ghost use lib.Dec.{leb};
+ghost use Rattle.meaning.specs.Membership.{isIn};
+ghost use Rattle.board.specs.Lock.{admits};
+ghost use Rattle.messages.specs.Locking.{lockFunctions, lockedBy, setLockRow, lockRow};
 
 // 16h SET_NETWORK_LOCK: function, priority.
-pub(crate) fn set_lock(node: Node, request: Header, bundle: &[u8]) -> Turn
-    ensures { λ r. ⌜ r ≡ answered node request (setLockRow node (request .source) (dataOf (now (bundle .entry)))) ⌝ }
+pub(crate) fn set_lock(node: Node, source: Address, bundle: &[u8]) -> Outcome
+    ensures { λ r. ⌜ r ≡ setLockRow node source (dataOf (now (bundle .entry))) ⌝ }
 {
     if !holds(bundle, 2) {
-        return declined(node, request, Code::TooLittleData);
+        return refuses(node, Code::TooLittleData);
     }
-    let priority = data_byte(bundle, 1);
-    let lock = node.lock;
     let function = data_byte(bundle, 0);
-    match function {
-        0 => unlock(node, request, priority),
-        1 => lock_at(node, request, priority),
-        3 => keep(node, request, lock.saving(true)),
-        4 => keep(node, request, lock.saving(false)),
-        _ => declined(node, request, Code::OutOfRange),
+    let priority = data_byte(bundle, 1);
+    if !is_function(function) {
+        return refuses(node, Code::OutOfRange);
     }
+    let lock = node.lock;
+    if is_outranked(lock, function, priority) {
+        return refuses(node, Code::PriorityTooLow);
+    }
+    let after = locked_by(node, source, function, priority);
+    acts(after, Change::Keep)
 }
 
 // 26h, answered 36h: status, source, priority, saved.
-pub(crate) fn post_lock(node: Node, request: Header) -> Turn
-    ensures { λ r. ⌜ r ≡ answered node request (lockRow node) ⌝ }
+pub(crate) fn post_lock(node: Node) -> Outcome
+    ensures { λ r. ⌜ r ≡ lockRow node ⌝ }
 {
     let holder = node.lock.holder;
     let source = holder.to_bytes();
     let locked = bit(node.lock.locked);
     let saved = bit(node.lock.saved);
-    let content = [
-        locked,
-        source[0],
-        source[1],
-        source[2],
-        node.lock.priority,
-        saved,
-    ];
-    posted(node, request, 0x36, &content)
+    let mut content = [0u8; 20];
+    content[0] = locked;
+    content[1] = source[0];
+    content[2] = source[1];
+    content[3] = source[2];
+    content[4] = node.lock.priority;
+    content[5] = saved;
+    posts(node, 0x36, 6, content)
 }
 
-fn unlock(node: Node, request: Header, priority: u8) -> Turn
-    ensures { λ r. ⌜ r ≡ answered node request (unlockingBy node priority) ⌝ }
+// 0 unlock, 1 lock, 3 and 4 set and clear "saved".
+fn is_function(function: u8) -> bool
+    ensures { λ r. ⌜ r ≡ isIn function lockFunctions ⌝ }
 {
-    let lock = node.lock;
-    if !lock.admits(priority) {
-        return declined(node, request, Code::PriorityTooLow);
+    match function {
+        0 => true,
+        1 => true,
+        3 => true,
+        4 => true,
+        _ => false,
     }
-    keep(node, request, lock.unlocked())
+}
+
+// To unlock or lock takes a priority at least the holder's if locked.
+fn is_outranked(lock: Lock, function: u8, priority: u8) -> bool
+    ensures { λ r. ⌜ r ≡ (leb function 1 && not (admits lock priority)) ⌝ }
+{
+    if function > 1 {
+        return false;
+    }
+    !lock.admits(priority)
 }
 
 // A lock stops a running motor as STOP does.
-fn lock_at(node: Node, request: Header, priority: u8) -> Turn
-    ensures { λ r. ⌜ r ≡ answered node request (lockingBy node (request .source) priority) ⌝ }
+fn locked_by(node: Node, source: Address, function: u8, priority: u8) -> Node
+    ensures { λ r. ⌜ r ≡ lockedBy node source function priority ⌝ }
 {
     let lock = node.lock;
-    if !lock.admits(priority) {
-        return declined(node, request, Code::PriorityTooLow);
-    }
     let drive = node.drive;
-    let source = request.source;
-    let halted = drive.halted();
-    let locked = lock.locked(source, priority);
-    let driven = node.with_drive(halted);
-    let after = driven.with_lock(locked);
-    accepted(node, request, after, Change::Keep)
-}
-
-fn keep(node: Node, request: Header, lock: Lock) -> Turn
-    ensures { λ r. ⌜ r ≡ answered node request (keepingLock node lock) ⌝ }
-{
-    let after = node.with_lock(lock);
-    accepted(node, request, after, Change::Keep)
+    match function {
+        0 => node.with_lock(lock.unlocked()),
+        1 => {
+            let halted = node.with_drive(drive.halted());
+            halted.with_lock(lock.locked(source, priority))
+        }
+        3 => node.with_lock(lock.saving(true)),
+        _ => node.with_lock(lock.saving(false)),
+    }
 }

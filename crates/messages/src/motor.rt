@@ -1,26 +1,23 @@
 // STOP, MOVETO, and what is told of the motor.
+use crate::code::Code;
 use crate::fields::holds;
-use crate::fields::word;
+use crate::outcome::Outcome;
+use crate::outcome::acts;
+use crate::outcome::posts;
+use crate::outcome::refuses;
+use board::Change;
 use board::Ip;
 use board::Node;
-use frame::Header;
 use frame::data_byte;
+use frame::word;
 use travel::IpIndex;
 use travel::Percent;
 use travel::Pulse;
 use travel::percent_of_pulse;
 use travel::pulse_of_percent;
-use turn::Change;
-use turn::Code;
-use turn::Turn;
-use turn::accepted;
-use turn::declined;
-use turn::posted;
 ghost use mathlib.Core.Path.{_≡_};
 ghost use Rattle.frame.specs.Layout.{dataOf};
-ghost use Rattle.messages.specs.Motor.{aimOf, isAim, targetOf};
-ghost use Rattle.turn.specs.Replies.{answered};
-ghost use Rattle.messages.specs.Table.{stopRow, moveRow, positionRow, statusRow};
+ghost use Rattle.messages.specs.Motor.{aimOf, isAim, targetOf, stopRow, moveRow, positionRow, statusRow};
 
 // Where MOVETO is to go.
 pub enum Aim {
@@ -33,55 +30,55 @@ pub enum Aim {
 }
 
 // 02h STOP.
-pub(crate) fn stop(node: Node, request: Header, bundle: &[u8]) -> Turn
-    ensures { λ r. ⌜ r ≡ answered node request (stopRow node (dataOf (now (bundle .entry)))) ⌝ }
+pub(crate) fn stop(node: Node, bundle: &[u8]) -> Outcome
+    ensures { λ r. ⌜ r ≡ stopRow node (dataOf (now (bundle .entry))) ⌝ }
 {
     if !holds(bundle, 1) {
-        return declined(node, request, Code::TooLittleData);
+        return refuses(node, Code::TooLittleData);
     }
     let lock = node.lock;
     if lock.locked {
-        return declined(node, request, Code::Locked);
+        return refuses(node, Code::Locked);
     }
     let drive = node.drive;
     let halted = drive.halted();
     let after = node.with_drive(halted);
-    accepted(node, request, after, Change::Keep)
+    acts(after, Change::Keep)
 }
 
 // 03h MOVETO: function, position, reserved.
-pub(crate) fn move_to(node: Node, request: Header, bundle: &[u8]) -> Turn
-    ensures { λ r. ⌜ r ≡ answered node request (moveRow node (dataOf (now (bundle .entry)))) ⌝ }
+pub(crate) fn move_to(node: Node, bundle: &[u8]) -> Outcome
+    ensures { λ r. ⌜ r ≡ moveRow node (dataOf (now (bundle .entry))) ⌝ }
 {
     if !holds(bundle, 4) {
-        return declined(node, request, Code::TooLittleData);
+        return refuses(node, Code::TooLittleData);
     }
     let position = word(data_byte(bundle, 1), data_byte(bundle, 2));
     let aim = aim_of(data_byte(bundle, 0), position);
     if !is_aim(aim) {
-        return declined(node, request, Code::OutOfRange);
+        return refuses(node, Code::OutOfRange);
     }
     if node.lock.locked {
-        return declined(node, request, Code::Locked);
+        return refuses(node, Code::Locked);
     }
     if node.drive.blocked {
-        return declined(node, request, Code::Blocked);
+        return refuses(node, Code::Blocked);
     }
     let target = target_of(node, aim);
     match target {
-        Ip::Unset => declined(node, request, Code::IpNotSet),
+        Ip::Unset => refuses(node, Code::IpNotSet),
         Ip::At(pulse) => {
             let drive = node.drive;
             let moved = drive.moved_to(pulse);
             let after = node.with_drive(moved);
-            accepted(node, request, after, Change::Keep)
+            acts(after, Change::Keep)
         }
     }
 }
 
 // 0Ch, answered 0Dh: pulse, percent, reserved, IP.
-pub(crate) fn post_position(node: Node, request: Header) -> Turn
-    ensures { λ r. ⌜ r ≡ answered node request (positionRow node) ⌝ }
+pub(crate) fn post_position(node: Node) -> Outcome
+    ensures { λ r. ⌜ r ≡ positionRow node ⌝ }
 {
     let position = node.drive.position;
     let travel = node.settings.travel;
@@ -90,22 +87,26 @@ pub(crate) fn post_position(node: Node, request: Header) -> Turn
     let high = (position.0 / 256) as u8;
     let percent = percent_of_pulse(position, travel);
     let ip = favourites.reported_ip(position);
-    let content = [low, high, percent.0, 0xFF, ip];
-    posted(node, request, 0x0D, &content)
+    let mut content = [0u8; 20];
+    content[0] = low;
+    content[1] = high;
+    content[2] = percent.0;
+    content[3] = 0xFF;
+    content[4] = ip;
+    posts(node, 0x0D, 5, content)
 }
 
 // 0Eh, answered 0Fh: status, direction, source, cause.
-pub(crate) fn post_status(node: Node, request: Header) -> Turn
-    ensures { λ r. ⌜ r ≡ answered node request (statusRow node) ⌝ }
+pub(crate) fn post_status(node: Node) -> Outcome
+    ensures { λ r. ⌜ r ≡ statusRow node ⌝ }
 {
     let status = node.status();
-    let content = [
-        status,
-        node.drive.direction,
-        node.drive.source,
-        node.drive.cause,
-    ];
-    posted(node, request, 0x0F, &content)
+    let mut content = [0u8; 20];
+    content[0] = status;
+    content[1] = node.drive.direction;
+    content[2] = node.drive.source;
+    content[3] = node.drive.cause;
+    posts(node, 0x0F, 4, content)
 }
 
 fn aim_of(function: u8, position: u16) -> Aim

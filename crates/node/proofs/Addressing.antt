@@ -4,7 +4,7 @@ use mathlib.Core.Path.{_≡_}
 use mathlib.Core.Bool.{true, false, not}
 use Rattle.frame.specs.declared.header.Header.{Header}
 use Rattle.board.specs.declared.settings.Settings.{Settings}
-use Rattle.turn.specs.Turn.{Groups}
+use Rattle.board.specs.Groups.{Groups}
 use Rattle.node.specs.Meant.{meant, reaches, isSender, suits, isReply}
 
 module _ (s : Settings) (g : Groups) (h : Header) where

@@ -7,27 +7,34 @@ use mathlib.Core.List.{List}
 use borrow.Author.Tests.{not-false}
 use Rattle.meaning.specs.Choice.{either}
 use Rattle.refusal.specs.declared.Refusal.{Refusal}
-use Rattle.frame.specs.Layout.{headerOf, dataOf}
+use Rattle.frame.specs.Layout.{message, source, headerOf, dataOf}
 use Rattle.frame.specs.Reading.{IsFrame, readingOf}
 use Rattle.frame.specs.Reading as reading
 use Rattle.frame.specs.declared.reading.Reading.{Reading}
 use Rattle.frame.specs.declared.reading.Reading.the-variants.{Frame, Refused}
 use Rattle.frame.proofs.Frames.{frame-is-read, frame-exactly-when}
+use Rattle.board.specs.Groups.{Groups}
 use Rattle.board.specs.Node.{sound}
+use Rattle.board.specs.declared.groups.Change.the-variants.{Keep}
 use Rattle.board.specs.declared.whole.Node.{Node}
-use Rattle.turn.specs.declared.turn.Change.the-variants.{Keep}
-use Rattle.turn.specs.declared.turn.Turn.{Turn}
-use Rattle.turn.specs.Turn.{Groups, silent, refusedBy}
-use Rattle.turn.specs.Replies.{answered}
 use Rattle.messages.specs.Table.{outcomeOf}
+use Rattle.messages.specs.declared.outcome.Outcome.{Outcome}
 use Rattle.node.specs.Meant.{meant}
+use Rattle.node.specs.Turn.{silent, refusedBy}
+use Rattle.node.specs.Replies.{answered}
 use Rattle.node.specs.Frames.{turnBy, turnOf}
+use Rattle.node.specs.declared.turn.Turn.{Turn}
+
+module _ (n : Node) (g : Groups) (b : List ℕ) where
+  -- What the message of a frame comes to.
+  abbrev pub cameTo : Outcome
+  cameTo = outcomeOf n g (source b) (message b) (dataOf b)
 
 module _ (n : Node) (g : Groups) (b : List ℕ) (P : Turn → Type 0) where
   by-reading : (r : Reading) → readingOf b ≡ r
       → ((q : Refusal) → P (refusedBy n q))
       → P (silent n Keep)
-      → (IsFrame b → meant (n .settings) g (headerOf b) ≡ true → P (answered n (headerOf b) (outcomeOf n g (headerOf b) (dataOf b))))
+      → (IsFrame b → meant (n .settings) g (headerOf b) ≡ true → P (answered (n .settings) (headerOf b) (cameTo n g b)))
       → P (turnBy n g b r)
   by-reading (Refused q) e refused ignored carried = refused q
   by-reading (Frame h count) e refused ignored carried =
@@ -37,7 +44,7 @@ module _ (n : Node) (g : Groups) (b : List ℕ) (P : Turn → Type 0) where
 
   pub every-turn : ((q : Refusal) → P (refusedBy n q))
       → P (silent n Keep)
-      → (sound n ≡ true → IsFrame b → meant (n .settings) g (headerOf b) ≡ true → P (answered n (headerOf b) (outcomeOf n g (headerOf b) (dataOf b))))
+      → (sound n ≡ true → IsFrame b → meant (n .settings) g (headerOf b) ≡ true → P (answered (n .settings) (headerOf b) (cameTo n g b)))
       → P (turnOf n g b)
   unfolding turnOf
   every-turn refused ignored carried =

@@ -15,11 +15,12 @@ use Rattle.board.specs.Favourites.{firstAt, ipsWithin}
 use Rattle.board.specs.Node.{fresh, withDrive}
 use Rattle.board.specs.declared.drive.Motion.the-variants.{Still}
 use Rattle.board.specs.declared.whole.Node.{Node}
-use Rattle.turn.specs.declared.turn.Change.the-variants.{Keep}
-use Rattle.turn.specs.Turn.{reply, replied}
-use Rattle.turn.specs.Replies.{replyTo}
-use Rattle.messages.specs.Table.{outcomeOf, positionRow}
-use Rattle.node.specs.Groups.{noGroups, inTable}
+use Rattle.board.specs.Groups.{noGroups, inTable}
+use Rattle.board.specs.declared.groups.Change.the-variants.{Keep}
+use Rattle.messages.specs.Motor.{positionRow}
+use Rattle.messages.specs.Table.{outcomeOf}
+use Rattle.node.specs.Turn.{reply, replied}
+use Rattle.node.specs.Replies.{replyTo}
 use Rattle.node.specs.Meant.{meant}
 use Rattle.node.specs.Frames.{turnOf}
 

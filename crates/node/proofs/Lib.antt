@@ -2,7 +2,10 @@ pub mod Addressing
 pub mod Turns
 pub mod Bundles
 pub mod Passing
+pub mod Replied
+pub mod Answered
 pub mod Laws
 pub mod Sent
+pub mod Histories
 pub mod Figures
 pub mod Determined

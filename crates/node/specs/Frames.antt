@@ -11,18 +11,20 @@ use Rattle.frame.specs.declared.reading.Reading.{Reading}
 use Rattle.frame.specs.declared.reading.Reading.the-variants.{Frame, Refused}
 use Rattle.board.specs.Node.{sound}
 use Rattle.board.specs.declared.whole.Node.{Node}
-use Rattle.turn.specs.declared.turn.Change.the-variants.{Keep}
-use Rattle.turn.specs.declared.turn.Turn.{Turn}
-use Rattle.turn.specs.Turn.{Groups, silent, refusedBy}
-use Rattle.turn.specs.Replies.{answered}
+use Rattle.board.specs.Groups.{Groups}
+use Rattle.board.specs.declared.groups.Change.the-variants.{Keep}
 use Rattle.messages.specs.Table.{outcomeOf}
 use Rattle.node.specs.Meant.{meant}
+use Rattle.node.specs.Turn.{silent, refusedBy}
+use Rattle.node.specs.Replies.{answered}
+use Rattle.node.specs.declared.turn.Turn.{Turn}
 
--- A frame is carried out if it is meant for this node; else silence and no change. What is no frame is refused by its number.
+-- A frame is carried out if it is meant for this node; else silence and no change. What is no frame is refused by its
+-- number.
 abbrev pub turnBy : Node → Groups → List ℕ → Reading → Turn
 turnBy n groups b (Frame h count) =
     if meant (n .settings) groups h
-    then answered n h (outcomeOf n groups h (dataOf b))
+    then answered (n .settings) h (outcomeOf n groups (h .source) (h .message) (dataOf b))
     else silent n Keep
 turnBy n groups b (Refused r) = refusedBy n r
 

@@ -1,3 +1,5 @@
-pub mod Groups
 pub mod Meant
+pub mod Turn
+pub mod Replies
 pub mod Frames
+pub mod Histories

@@ -1,8 +1,10 @@
-// The awning board on the bus: which frames are for it, and the turn that a bundle leads to.
+// The awning board on the bus: which frames are meant for it, the turn that a bundle leads to, and the reply.
 mod frames;
-mod groups;
 mod meant;
+mod reply;
+mod turn;
 
 pub use frames::on_frame;
-pub use groups::apply;
-pub use groups::no_groups;
+pub use turn::Answer;
+pub use turn::Reply;
+pub use turn::Turn;

@@ -1,6 +1,6 @@
 // Is the frame for this node?
-use crate::groups::in_table;
 use board::Settings;
+use board::in_table;
 use frame::Address;
 use frame::Header;
 ghost use mathlib.Core.Path.{_≡_};

@@ -7,16 +7,10 @@ use Rattle.messages.proofs.Orders.{sharing, unnumbered, deleting, here,
 use Rattle.messages.proofs.favourites.order_of.Statement.{statement}
 use Rattle.messages.proofs.favourites.order_of.Tie as tie
 
-share-of-requires : tie.Need-share-of-requires
-share-of-requires c κs = search needs
-
 returns : tie.Need-returns
 returns c =
     let x = c .before .before .args in
     c .share-of .ensures ∙ sym (sharing (x .function) (x .index) (x .value) (c .before .if1 .taken))
-
-is-number-requires : tie.Need-is-number-requires
-is-number-requires c κs = search needs
 
 returns-2 : tie.Need-returns-2
 returns-2 c =
@@ -42,9 +36,6 @@ returns-5 c =
     let x = i .before .before .args in
     sym (percent-beyond (x .function) (x .index) (x .value) (found-true (i .is-number .ensures) (c .before .before .before .before .if2 .left)) (c .before .if5 .taken) (c .if6 .taken))
 
-cast-t7 : tie.Need-cast-t7
-cast-t7 c = search needs
-
 returns-6 : tie.Need-returns-6
 returns-6 c =
     let i = c .before .before .before .before .before in
@@ -61,13 +52,13 @@ pub order-of-spec : {M : Type 1} → statement M
 order-of-spec =
     tie.close
     (tie.spec
-    share-of-requires
+    (λ c κs. search needs)
     returns
-    is-number-requires
+    (λ c κs. search needs)
     returns-2
     returns-3
     returns-4
     returns-5
-    cast-t7
+    (λ c. search needs)
     returns-6
     returns-7)

@@ -8,18 +8,6 @@ use Rattle.messages.specs.Ips.{percentOr}
 use Rattle.messages.proofs.favourites.percent_or.Statement.{statement}
 use Rattle.messages.proofs.favourites.percent_or.Tie as tie
 
-enum-told : tie.Need-enum-told
-enum-told c = search needs
-
-enum-known-ip : tie.Need-enum-known-ip
-enum-known-ip c = search needs
-
-percent-of-pulse-requires : tie.Need-percent-of-pulse-requires
-percent-of-pulse-requires c κs = search needs
-
-returns : tie.Need-returns
-returns c = search needs
-
 returns-2 : tie.Need-returns-2
 returns-2 c =
     let x = c .before .before .before .before .args in
@@ -27,4 +15,4 @@ returns-2 c =
 
 pub percent-or-spec : {M : Type 1} → statement M
 percent-or-spec =
-    tie.close (tie.spec enum-told enum-known-ip percent-of-pulse-requires returns returns-2)
+    tie.close (tie.spec (λ c. search needs) (λ c. search needs) (λ c κs. search needs) (λ c. search needs) returns-2)

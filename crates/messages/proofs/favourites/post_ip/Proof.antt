@@ -1,87 +1,69 @@
--- Each return is its row's.
+-- Each return is its row's: the codes passed over, and the one that applies; else the four bytes.
 -- Assumes nothing.
 use borrow.Author.Needs.{needs}
-use mathlib.Core.Path.{_∙_, sym, ap}
+use mathlib.Core.Path.{_≡_, _∙_, sym, ap}
+use mathlib.Core.List.{List, [], _∷_}
+use Prim.Native.Nat.{ℕ, _≤_}
+use lib.ListN.{length}
 use Rattle.meaning.specs.Chosen.{found-false, found-true}
+use Rattle.travel.specs.Units.{ip}
+use Rattle.board.specs.Favourites.{isNumber}
+use Rattle.board.specs.declared.favourites.Ip.{Ip}
 use Rattle.frame.specs.Layout.{dataOf}
-use Rattle.turn.specs.Replies.{answered}
-use Rattle.messages.proofs.Rows.{ip-short, ip-unknown, ip-told}
+use Rattle.messages.specs.Fields.{byteAt}
+use Rattle.messages.specs.Ips.{percentOr, ipData}
+use Rattle.messages.specs.Outcome.{posts}
+use Rattle.messages.proofs.Rows.{too-little, enough, ip-at}
 use Rattle.messages.proofs.favourites.post_ip.Statement.{statement}
 use Rattle.messages.proofs.favourites.post_ip.Tie as tie
 
-holds-requires : tie.Need-holds-requires
-holds-requires c κs = search needs
+one : (c : tie.After-is-number) → 1 ≤ length (dataOf (c .before .before .before .before .before .args .bundle .now))
+one c = enough 1 (dataOf (c .before .before .before .before .before .args .bundle .now)) (c .before .before .before .holds .ensures) (c .before .before .if1 .left)
 
-declined-requires : tie.Need-declined-requires
-declined-requires c κs = search needs
+numbered : (c : tie.After-is-number)
+    → c .is-number .result ≡ isNumber (ip (byteAt (dataOf (c .before .before .before .before .before .args .bundle .now)) 0))
+numbered c = c .is-number .ensures ∙ ap (λ (i : ℕ). isNumber (ip i)) (c .before .data-byte .ensures)
 
 returns : tie.Need-returns
 returns c =
     let h = c .before .before in
     let x = h .before .before .args in
-    c .declined .ensures ∙ ap (answered (x .node) (x .request))
-    (sym (ip-short (x .node) (dataOf (x .bundle .now)) (found-false (h .holds .ensures) (c .before .if1 .taken))))
-
-data-byte-requires : tie.Need-data-byte-requires
-data-byte-requires c κs = search needs
-
-is-number-requires : tie.Need-is-number-requires
-is-number-requires c κs = search needs
-
-declined-requires-2 : tie.Need-declined-requires-2
-declined-requires-2 c κs = search needs
+    let d = dataOf (x .bundle .now) in
+    c .refuses .ensures ∙ sym (ip-at (x .node) d 0 (too-little 1 d (h .holds .ensures) (c .before .if1 .taken)))
 
 returns-2 : tie.Need-returns-2
 returns-2 c =
     let i = c .before .before in
-    let b = i .before in
-    let h = b .before .before in
-    let x = h .before .before .args in
-    c .declined2 .ensures ∙ ap (answered (x .node) (x .request))
-    (sym (ip-unknown (x .node) (dataOf (x .bundle .now)) (b .data-byte .result)
-    (found-true (h .holds .ensures) (b .before .if1 .left)) (b .data-byte .ensures)
-    (found-false (i .is-number .ensures) (c .before .if2 .taken))))
-
-ip-at-requires : tie.Need-ip-at-requires
-ip-at-requires c κs = search needs
-
-percent-or-requires : tie.Need-percent-or-requires
-percent-or-requires c κs = search needs
-
-slice-aggregate-posted : tie.Need-slice-aggregate-posted
-slice-aggregate-posted c = search needs
-
-posted-requires : tie.Need-posted-requires
-posted-requires c κs = search needs
+    let x = i .before .before .before .before .before .args in
+    c .refuses2 .ensures ∙ sym (ip-at (x .node) (dataOf (x .bundle .now)) 1 (one i, found-false (numbered i) (c .before .if2 .taken)))
 
 returns-3 : tie.Need-returns-3
 returns-3 c =
-    let p = c .before .before in
-    let a = p .before in
-    let n = a .before .before .before in
-    let i = n .before in
-    let b = i .before in
-    let h = b .before .before in
-    let x = h .before .before .args in
-    c .posted .ensures ∙ ap (answered (x .node) (x .request))
-    (sym (ip-told (x .node) (dataOf (x .bundle .now)) (b .data-byte .result)
-    (found-true (h .holds .ensures) (b .before .if1 .left)) (b .data-byte .ensures)
-    (a .ip-at .result) (p .percent-or .result)
-    (found-true (i .is-number .ensures) (n .if2 .left)) (a .ip-at .ensures) (p .percent-or .ensures)))
+    let i = c .before .before .before .before .before .before in
+    let x = i .before .before .before .before .before .args in
+    let index = i .before .data-byte .result in
+    c .posts .ensures
+    ∙ ap (λ (k : ℕ). posts (x .node) 0x35 (index ∷ 0xFF ∷ 0xFF ∷ k ∷ []))
+    (c .before .percent-or .ensures ∙ ap (λ (p : Ip). percentOr p (x .node .settings .travel)) (c .before .before .ip-at .ensures))
+    ∙ ap (λ (k : ℕ). posts (x .node) 0x35 (ipData (x .node) (ip k))) (i .before .data-byte .ensures)
+    ∙ sym (ip-at (x .node) (dataOf (x .bundle .now)) 2 (one i, (found-true (numbered i) (c .before .before .before .before .before .if2 .left), tt)))
 
 pub post-ip-spec : {M : Type 1} → statement M
 post-ip-spec =
     tie.close
     (tie.spec
-    holds-requires
-    declined-requires
+    (λ c κs. search needs)
+    (λ c κs. search needs)
     returns
-    data-byte-requires
-    is-number-requires
-    declined-requires-2
+    (λ c κs. search needs)
+    (λ c κs. search needs)
+    (λ c κs. search needs)
     returns-2
-    ip-at-requires
-    percent-or-requires
-    slice-aggregate-posted
-    posted-requires
+    (λ c κs. search needs)
+    (λ c. search needs)
+    (λ c. search needs)
+    (λ c. search needs)
+    (λ c κs. search needs)
+    (λ c. search needs)
+    (λ c κs. search needs)
     returns-3)

@@ -1,182 +1,107 @@
--- The fields give the order; each return is then its order's.
+-- The fields give the order; each return is then its row's: the codes passed over, and the one that applies.
 -- Assumes nothing.
 use borrow.Author.Needs.{needs}
 use mathlib.Core.Path.{_≡_, _∙_, sym, ap, ap₂}
-use Prim.Native.Nat.{ℕ, _+_, _*_}
+use mathlib.Core.List.{List}
+use Prim.Native.Nat.{ℕ, _+_, _*_, _≤_}
+use lib.ListN.{length}
 use Rattle.meaning.specs.Chosen.{found-false, found-true}
-use Rattle.travel.specs.declared.Pulse.{Pulse}
-use Rattle.board.specs.Favourites.{withIp}
+use Rattle.travel.specs.Units.{ip}
 use Rattle.board.specs.declared.favourites.Favourites.{Favourites}
-use Rattle.board.specs.declared.favourites.Ip.the-variants.{At}
 use Rattle.frame.specs.Layout.{dataOf}
-use Rattle.turn.specs.Replies.{answered}
-use Rattle.messages.specs.Ips.{settingIp, keepingIps}
-use Rattle.messages.specs.Table.{setIpRow}
-use Rattle.messages.proofs.Rows.{set-ip-short, set-ip-ordered}
+use Rattle.board.specs.Node.{withFavourites}
+use Rattle.board.specs.declared.groups.Change.the-variants.{Keep}
+use Rattle.board.specs.declared.whole.Node.{Node}
+use Rattle.frame.specs.Words.{wordAt}
+use Rattle.messages.specs.Fields.{byteAt}
+use Rattle.messages.specs.Ips.{orderOf, orderIn, isOrder, findsItsIp, ordered}
+use Rattle.messages.specs.Outcome.{acts}
+use Rattle.messages.proofs.Rows.{too-little, enough, set-ip-at}
 use Rattle.messages.proofs.favourites.set_ip.Statement.{statement}
 use Rattle.messages.proofs.favourites.set_ip.Tie as tie
 
-ordered : (c : tie.After-order-of)
-    → let x = c .before .before .before .before .before .before .before .before .before .args in
-    setIpRow (x .node) (dataOf (x .bundle .now)) ≡ settingIp (x .node) (c .order-of .result)
-ordered c =
-    let i = c .before in
-    let f = i .before in
-    let w = f .before in
-    let high = w .before in
-    let low = high .before in
-    let h = low .before .before in
-    let x = h .before .before .args in
-    set-ip-ordered (x .node) (dataOf (x .bundle .now)) (f .data-byte3 .result) (i .data-byte4 .result) (w .word .result) (c .order-of .result)
-    (found-true (h .holds .ensures) (low .before .if1 .left))
-    (f .data-byte3 .ensures)
-    (i .data-byte4 .ensures)
-    (w .word .ensures ∙ ap₂ (λ (l m : ℕ). l + 256 * m) (low .data-byte .ensures) (high .data-byte2 .ensures))
-    (c .order-of .ensures)
+spelled : (d : List ℕ) (function index value : ℕ) → function ≡ byteAt d 0 → index ≡ byteAt d 1 → value ≡ wordAt d 2
+    → orderOf function (ip index) value ≡ orderIn d
+spelled d function index value f i v = rw (f, i, v)
 
-holds-requires : tie.Need-holds-requires
-holds-requires c κs = search needs
+order : (c : tie.After-order-of)
+    → c .order-of .result ≡ orderIn (dataOf (c .before .before .before .before .before .before .before .before .before .args .bundle .now))
+order c =
+    let word = c .before .before .before in
+    let d = dataOf (word .before .before .before .before .before .before .args .bundle .now) in
+    c .order-of .ensures
+    ∙ spelled d (c .before .before .data-byte3 .result) (c .before .data-byte4 .result) (word .word .result)
+    (c .before .before .data-byte3 .ensures)
+    (c .before .data-byte4 .ensures)
+    (word .word .ensures ∙ ap₂ (λ (low high : ℕ). low + 256 * high) (word .before .before .data-byte .ensures) (word .before .data-byte2 .ensures))
 
-declined-requires : tie.Need-declined-requires
-declined-requires c κs = search needs
+four : (c : tie.After-order-of) → 4 ≤ length (dataOf (c .before .before .before .before .before .before .before .before .before .args .bundle .now))
+four c = enough 4 (dataOf (c .before .before .before .before .before .before .before .before .before .args .bundle .now)) (c .before .before .before .before .before .before .before .holds .ensures) (c .before .before .before .before .before .before .if1 .left)
+
+is-one : (c : tie.After-is-order)
+    → c .is-order .result
+    ≡ isOrder (orderIn (dataOf (c .before .before .before .before .before .before .before .before .before .before .args .bundle .now)))
+is-one c = c .is-order .ensures ∙ ap isOrder (order (c .before))
+
+finds : (c : tie.After-finds-its-ip)
+    → let x = c .before .before .before .before .before .before .before .before .before .before .before .before .before .args in
+    c .finds-its-ip .result ≡ findsItsIp (x .node .favourites) (orderIn (dataOf (x .bundle .now)))
+finds c = c .finds-its-ip .ensures ∙ ap (findsItsIp (c .before .before .before .before .before .before .before .before .before .before .before .before .before .args .node .favourites)) (order (c .before .before .before .before))
 
 returns : tie.Need-returns
 returns c =
     let h = c .before .before in
     let x = h .before .before .args in
-    c .declined .ensures ∙ ap (answered (x .node) (x .request))
-    (sym (set-ip-short (x .node) (dataOf (x .bundle .now)) (found-false (h .holds .ensures) (c .before .if1 .taken))))
-
-data-byte-requires : tie.Need-data-byte-requires
-data-byte-requires c κs = search needs
-
-data-byte-requires-2 : tie.Need-data-byte-requires-2
-data-byte-requires-2 c κs = search needs
-
-word-requires : tie.Need-word-requires
-word-requires c κs = search needs
-
-data-byte-requires-3 : tie.Need-data-byte-requires-3
-data-byte-requires-3 c κs = search needs
-
-data-byte-requires-4 : tie.Need-data-byte-requires-4
-data-byte-requires-4 c κs = search needs
-
-order-of-requires : tie.Need-order-of-requires
-order-of-requires c κs = search needs
-
-enum-known-order : tie.Need-enum-known-order
-enum-known-order c = search needs
-
-delete-requires : tie.Need-delete-requires
-delete-requires c κs = search needs
-
-enum-known-order-2 : tie.Need-enum-known-order-2
-enum-known-order-2 c = search needs
-
-with-ip-requires : tie.Need-with-ip-requires
-with-ip-requires c κs = search needs
-
-keep-requires : tie.Need-keep-requires
-keep-requires c κs = search needs
-
-enum-known-order-3 : tie.Need-enum-known-order-3
-enum-known-order-3 c = search needs
-
-pulse-of-percent-requires : tie.Need-pulse-of-percent-requires
-pulse-of-percent-requires c κs = search needs
-
-with-ip-requires-2 : tie.Need-with-ip-requires-2
-with-ip-requires-2 c κs = search needs
-
-keep-requires-2 : tie.Need-keep-requires-2
-keep-requires-2 c κs = search needs
-
-enum-known-order-4 : tie.Need-enum-known-order-4
-enum-known-order-4 c = search needs
-
-shared-out-requires : tie.Need-shared-out-requires
-shared-out-requires c κs = search needs
-
-keep-requires-3 : tie.Need-keep-requires-3
-keep-requires-3 c κs = search needs
-
-enum-told : tie.Need-enum-told
-enum-told c = search needs
-
-declined-requires-2 : tie.Need-declined-requires-2
-declined-requires-2 c κs = search needs
+    let d = dataOf (x .bundle .now) in
+    c .refuses .ensures ∙ sym (set-ip-at (x .node) d 0 (too-little 4 d (h .holds .ensures) (c .before .if1 .taken)))
 
 returns-2 : tie.Need-returns-2
 returns-2 c =
-    let o = c .before .before .before .before .before .before .before in
-    let x = o .before .before .before .before .before .before .before .before .before .args in
-    c .delete .ensures ∙ ap (answered (x .node) (x .request))
-    (sym (ordered o ∙ ap (settingIp (x .node)) (c .before .before .order .given .1)))
+    let i = c .before .before in
+    let x = i .before .before .before .before .before .before .before .before .before .before .args in
+    c .refuses2 .ensures
+    ∙ sym (set-ip-at (x .node) (dataOf (x .bundle .now)) 1 (four (i .before), found-false (is-one i) (c .before .if2 .taken)))
 
 returns-3 : tie.Need-returns-3
 returns-3 c =
-    let o = c .before .before .before .before .before .before .before .before in
-    let x = o .before .before .before .before .before .before .before .before .before .args in
-    c .keep .ensures ∙ ap (answered (x .node) (x .request))
-    (ap (λ (f : Favourites). keepingIps (x .node) f) (c .before .with-ip .ensures)
-    ∙ sym (ordered o ∙ ap (settingIp (x .node)) (c .before .before .before .order2 .given .1)))
+    let f = c .before .before in
+    let i = f .before .before .before in
+    let x = i .before .before .before .before .before .before .before .before .before .before .args in
+    c .refuses3 .ensures
+    ∙ sym (set-ip-at (x .node) (dataOf (x .bundle .now)) 2
+    (four (i .before), (found-true (is-one i) (f .before .before .if2 .left), found-false (finds f) (c .before .if3 .taken))))
 
 returns-4 : tie.Need-returns-4
 returns-4 c =
-    let p = c .before .before in
-    let k = p .before .before in
-    let o = k .before .before .before .before .before in
-    let x = o .before .before .before .before .before .before .before .before .before .args in
-    c .keep2 .ensures ∙ ap (answered (x .node) (x .request))
-    (ap (λ (f : Favourites). keepingIps (x .node) f)
-    (c .before .with-ip2 .ensures ∙ ap (λ (q : Pulse). withIp (x .node .favourites) (k .order3 .given .0 .0) (At q)) (p .pulse-of-percent .ensures))
-    ∙ sym (ordered o ∙ ap (settingIp (x .node)) (k .order3 .given .1)))
-
-returns-5 : tie.Need-returns-5
-returns-5 c =
-    let o = c .before .before .before .before .before .before .before .before in
-    let x = o .before .before .before .before .before .before .before .before .before .args in
-    c .keep3 .ensures ∙ ap (answered (x .node) (x .request))
-    (ap (λ (f : Favourites). keepingIps (x .node) f) (c .before .shared-out .ensures)
-    ∙ sym (ordered o ∙ ap (settingIp (x .node)) (c .before .before .before .order4 .given .1)))
-
-returns-6 : tie.Need-returns-6
-returns-6 c =
-    let o = c .before .before .before .before .before .before in
-    let x = o .before .before .before .before .before .before .before .before .before .args in
-    c .declined2 .ensures ∙ ap (answered (x .node) (x .request))
-    (sym (ordered o ∙ ap (settingIp (x .node)) (c .before .enum-told .given .1)))
+    let f = c .before .before .before .before in
+    let i = f .before .before .before in
+    let x = i .before .before .before .before .before .before .before .before .before .before .args in
+    c .acts .ensures
+    ∙ ap (λ (n : Node). acts n Keep)
+    (c .before .with-favourites .ensures ∙ ap (λ (l : Favourites). withFavourites (x .node) l) (c .before .before .ordered .ensures ∙ ap (ordered (x .node)) (order (i .before))))
+    ∙ sym (set-ip-at (x .node) (dataOf (x .bundle .now)) 3
+    (four (i .before), (found-true (is-one i) (f .before .before .if2 .left), (found-true (finds f) (c .before .before .before .if3 .left), tt))))
 
 pub set-ip-spec : {M : Type 1} → statement M
 set-ip-spec =
     tie.close
     (tie.spec
-    holds-requires
-    declined-requires
+    (λ c κs. search needs)
+    (λ c κs. search needs)
     returns
-    data-byte-requires
-    data-byte-requires-2
-    word-requires
-    data-byte-requires-3
-    data-byte-requires-4
-    order-of-requires
-    enum-known-order
-    delete-requires
-    enum-known-order-2
-    with-ip-requires
-    keep-requires
-    enum-known-order-3
-    pulse-of-percent-requires
-    with-ip-requires-2
-    keep-requires-2
-    enum-known-order-4
-    shared-out-requires
-    keep-requires-3
-    enum-told
-    declined-requires-2
+    (λ c κs. search needs)
+    (λ c κs. search needs)
+    (λ c κs. search needs)
+    (λ c κs. search needs)
+    (λ c κs. search needs)
+    (λ c κs. search needs)
+    (λ c κs. search needs)
+    (λ c κs. search needs)
     returns-2
+    (λ c κs. search needs)
+    (λ c κs. search needs)
     returns-3
-    returns-4
-    returns-5
-    returns-6)
+    (λ c κs. search needs)
+    (λ c κs. search needs)
+    (λ c κs. search needs)
+    returns-4)

@@ -11,11 +11,8 @@ returns c = simp (lt-ltb _ _ (c .if1 .taken))
 returns-2 : tie.Need-returns-2
 returns-2 c = simp (le-ltb _ _ (c .before .if1 .left), lt-ltb _ _ (c .if2 .taken))
 
-cast-t3 : tie.Need-cast-t3
-cast-t3 c = search needs
-
 returns-3 : tie.Need-returns-3
 returns-3 c = simp (le-ltb _ _ (c .before .if1 .left), le-ltb _ _ (c .if2 .left))
 
 pub share-of-spec : {M : Type 1} → statement M
-share-of-spec = tie.close (tie.spec returns returns-2 cast-t3 returns-3)
+share-of-spec = tie.close (tie.spec returns returns-2 (λ c. search needs) returns-3)

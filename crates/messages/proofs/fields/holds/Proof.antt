@@ -8,13 +8,10 @@ use Rattle.frame.proofs.Content.{length-data}
 use Rattle.messages.proofs.fields.holds.Statement.{statement}
 use Rattle.messages.proofs.fields.holds.Tie as tie
 
-data-count-requires : tie.Need-data-count-requires
-data-count-requires c κs = search needs
-
 returns : tie.Need-returns
 returns c =
     let x = c .before .before .args in
     ap (λ (k : ℕ). leb (x .least) k) (c .data-count .ensures ∙ sym (length-data (x .bundle .now)))
 
 pub holds-spec : {M : Type 1} → statement M
-holds-spec = tie.close (tie.spec data-count-requires returns)
+holds-spec = tie.close (tie.spec (λ c κs. search needs) returns)

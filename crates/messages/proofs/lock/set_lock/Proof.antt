@@ -1,126 +1,93 @@
--- The fields give the function; each return is then its function's.
+-- Each return is its row's: the codes passed over, and the one that applies.
 -- Assumes nothing.
 use borrow.Author.Needs.{needs}
-use mathlib.Core.Path.{_≡_, _∙_, sym, ap}
+use mathlib.Core.Path.{_≡_, _∙_, sym, ap, ap₂}
+use mathlib.Core.Bool.{Bool, not, _&&_}
+use Prim.Native.Nat.{ℕ, _≤_}
+use lib.Dec.{leb}
+use lib.ListN.{length}
 use Rattle.meaning.specs.Chosen.{found-false, found-true}
-use Rattle.board.specs.declared.lock.Lock.{Lock}
+use Rattle.meaning.specs.Membership.{isIn}
+use Rattle.meaning.specs.Tests.{fails, _at-most_, _and_}
+use Rattle.board.specs.Lock.{admits}
+use Rattle.board.specs.declared.groups.Change.the-variants.{Keep}
+use Rattle.board.specs.declared.whole.Node.{Node}
 use Rattle.frame.specs.Layout.{dataOf}
-use Rattle.turn.specs.Replies.{answered}
-use Rattle.messages.specs.Locking.{settingLock, keepingLock}
-use Rattle.messages.specs.Table.{setLockRow}
-use Rattle.messages.proofs.Rows.{set-lock-short, set-lock-by, function-0, function-1, function-3, function-4, no-function}
+use Rattle.messages.specs.Fields.{byteAt}
+use Rattle.messages.specs.Locking.{lockFunctions, lockedBy}
+use Rattle.messages.specs.Outcome.{acts}
+use Rattle.messages.proofs.Rows.{too-little, enough, set-lock-at}
 use Rattle.messages.proofs.lock.set_lock.Statement.{statement}
 use Rattle.messages.proofs.lock.set_lock.Tie as tie
 
-by-function : (c : tie.After-data-byte2)
-    → let x = c .before .before .before .before .before .before .args in
-    setLockRow (x .node) (x .request .source) (dataOf (x .bundle .now))
-    ≡ settingLock (x .node) (x .request .source) (c .data-byte2 .result) (c .before .before .data-byte .result)
-by-function c =
-    let p = c .before .before in
-    let h = p .before .before in
-    let x = h .before .before .args in
-    set-lock-by (x .node) (x .request .source) (dataOf (x .bundle .now)) (c .data-byte2 .result) (p .data-byte .result)
-    (found-true (h .holds .ensures) (p .before .if1 .left))
-    (c .data-byte2 .ensures)
-    (p .data-byte .ensures)
+two : (c : tie.After-is-function) → 2 ≤ length (dataOf (c .before .before .before .before .before .before .args .bundle .now))
+two c = enough 2 (dataOf (c .before .before .before .before .before .before .args .bundle .now)) (c .before .before .before .before .holds .ensures) (c .before .before .before .if1 .left)
 
-holds-requires : tie.Need-holds-requires
-holds-requires c κs = search needs
+listed : (c : tie.After-is-function)
+    → c .is-function .result ≡ isIn (byteAt (dataOf (c .before .before .before .before .before .before .args .bundle .now)) 0) lockFunctions
+listed c = c .is-function .ensures ∙ ap (λ (f : ℕ). isIn f lockFunctions) (c .before .before .data-byte .ensures)
 
-declined-requires : tie.Need-declined-requires
-declined-requires c κs = search needs
+outranked : (c : tie.After-is-outranked)
+    → let x = c .before .before .before .before .before .before .before .before .before .args in
+    let d = dataOf (x .bundle .now) in
+    c .is-outranked .result ≡ (leb (byteAt d 0) 1 && not (admits (x .node .lock) (byteAt d 1)))
+outranked c =
+    let f = c .before .before .before in
+    c .is-outranked .ensures
+    ∙ ap₂ (λ (function priority : ℕ). leb function 1 && not (admits (c .before .before .before .before .before .before .before .before .before .args .node .lock) priority)) (f .before .before .data-byte .ensures) (f .before .data-byte2 .ensures)
 
 returns : tie.Need-returns
 returns c =
     let h = c .before .before in
     let x = h .before .before .args in
-    c .declined .ensures ∙ ap (answered (x .node) (x .request))
-    (sym (set-lock-short (x .node) (dataOf (x .bundle .now)) (x .request .source) (found-false (h .holds .ensures) (c .before .if1 .taken))))
-
-data-byte-requires : tie.Need-data-byte-requires
-data-byte-requires c κs = search needs
-
-data-byte-requires-2 : tie.Need-data-byte-requires-2
-data-byte-requires-2 c κs = search needs
-
-unlock-requires : tie.Need-unlock-requires
-unlock-requires c κs = search needs
-
-lock-at-requires : tie.Need-lock-at-requires
-lock-at-requires c κs = search needs
-
-saving-requires : tie.Need-saving-requires
-saving-requires c κs = search needs
-
-keep-requires : tie.Need-keep-requires
-keep-requires c κs = search needs
-
-saving-requires-2 : tie.Need-saving-requires-2
-saving-requires-2 c κs = search needs
-
-keep-requires-2 : tie.Need-keep-requires-2
-keep-requires-2 c κs = search needs
-
-declined-requires-2 : tie.Need-declined-requires-2
-declined-requires-2 c κs = search needs
+    let d = dataOf (x .bundle .now) in
+    c .refuses .ensures ∙ sym (set-lock-at (x .node) d 0 (x .source) (too-little 2 d (h .holds .ensures) (c .before .if1 .taken)))
 
 returns-2 : tie.Need-returns-2
 returns-2 c =
-    let f = c .before .before in
-    let x = f .before .before .before .before .before .before .args in
-    c .unlock .ensures ∙ ap (answered (x .node) (x .request))
-    (sym (by-function f ∙ function-0 (x .node) (x .request .source) (f .data-byte2 .result) (f .before .before .data-byte .result) (c .before .match .keys1)))
+    let i = c .before .before in
+    let x = i .before .before .before .before .before .before .args in
+    c .refuses2 .ensures
+    ∙ sym (set-lock-at (x .node) (dataOf (x .bundle .now)) 1 (x .source) (two i, found-false (listed i) (c .before .if2 .taken)))
 
 returns-3 : tie.Need-returns-3
 returns-3 c =
-    let f = c .before .before in
-    let x = f .before .before .before .before .before .before .args in
-    c .lock-at .ensures ∙ ap (answered (x .node) (x .request))
-    (sym (by-function f ∙ function-1 (x .node) (x .request .source) (f .data-byte2 .result) (f .before .before .data-byte .result) (c .before .match .keys2)))
+    let o = c .before .before in
+    let i = o .before .before .before in
+    let x = i .before .before .before .before .before .before .args in
+    let d = dataOf (x .bundle .now) in
+    let low = (byteAt d 0 at-most 1) and (fails (admits (x .node .lock) (byteAt d 1))) in
+    c .refuses3 .ensures
+    ∙ sym (set-lock-at (x .node) d 2 (x .source) (two i, (found-true (listed i) (o .before .before .if2 .left), low .is-fact (sym (outranked o) ∙ c .before .if3 .taken))))
 
 returns-4 : tie.Need-returns-4
 returns-4 c =
-    let f = c .before .before .before in
-    let x = f .before .before .before .before .before .before .args in
-    c .keep .ensures ∙ ap (answered (x .node) (x .request))
-    (ap (λ (l : Lock). keepingLock (x .node) l) (c .before .saving .ensures)
-    ∙ sym (by-function f ∙ function-3 (x .node) (x .request .source) (f .data-byte2 .result) (f .before .before .data-byte .result) (c .before .before .match .keys3)))
-
-returns-5 : tie.Need-returns-5
-returns-5 c =
-    let f = c .before .before .before in
-    let x = f .before .before .before .before .before .before .args in
-    c .keep2 .ensures ∙ ap (answered (x .node) (x .request))
-    (ap (λ (l : Lock). keepingLock (x .node) l) (c .before .saving2 .ensures)
-    ∙ sym (by-function f ∙ function-4 (x .node) (x .request .source) (f .data-byte2 .result) (f .before .before .data-byte .result) (c .before .before .match .keys4)))
-
-returns-6 : tie.Need-returns-6
-returns-6 c =
-    let f = c .before .before in
-    let x = f .before .before .before .before .before .before .args in
-    let r = c .before .match .rest in
-    c .declined2 .ensures ∙ ap (answered (x .node) (x .request))
-    (sym (by-function f ∙ no-function (x .node) (x .request .source) (f .data-byte2 .result) (f .before .before .data-byte .result) (r .0 .0 .0 .1) (r .0 .0 .1) (r .0 .1) (r .1)))
+    let o = c .before .before .before in
+    let i = o .before .before .before in
+    let x = i .before .before .before .before .before .before .args in
+    let d = dataOf (x .bundle .now) in
+    let low = (byteAt d 0 at-most 1) and (fails (admits (x .node .lock) (byteAt d 1))) in
+    c .acts .ensures
+    ∙ ap (λ (n : Node). acts n Keep)
+    (c .before .locked-by .ensures ∙ ap₂ (λ (function priority : ℕ). lockedBy (x .node) (x .source) function priority) (i .before .before .data-byte .ensures) (i .before .data-byte2 .ensures))
+    ∙ sym (set-lock-at (x .node) d 3 (x .source)
+    (two i, (found-true (listed i) (o .before .before .if2 .left), (low .is-other (sym (outranked o) ∙ c .before .before .if3 .left), tt))))
 
 pub set-lock-spec : {M : Type 1} → statement M
 set-lock-spec =
     tie.close
     (tie.spec
-    holds-requires
-    declined-requires
+    (λ c κs. search needs)
+    (λ c κs. search needs)
     returns
-    data-byte-requires
-    data-byte-requires-2
-    unlock-requires
-    lock-at-requires
-    saving-requires
-    keep-requires
-    saving-requires-2
-    keep-requires-2
-    declined-requires-2
+    (λ c κs. search needs)
+    (λ c κs. search needs)
+    (λ c κs. search needs)
+    (λ c κs. search needs)
     returns-2
+    (λ c κs. search needs)
+    (λ c κs. search needs)
     returns-3
-    returns-4
-    returns-5
-    returns-6)
+    (λ c κs. search needs)
+    (λ c κs. search needs)
+    returns-4)

@@ -14,20 +14,11 @@ returns-2 c = simp (ne-eqb _ _ (c .before .if1 .left), eq-eqb _ _ (c .if2 .taken
 returns-3 : tie.Need-returns-3
 returns-3 c = simp (ne-eqb _ _ (c .before .before .before .if1 .left), ne-eqb _ _ (c .before .before .if2 .left), eq-eqb _ _ (c .before .if3 .taken), lt-leb _ _ (c .if4 .taken))
 
-cast-t5 : tie.Need-cast-t5
-cast-t5 c = search needs
-
-add-t6 : tie.Need-add-t6
-add-t6 c = search needs
-
 returns-4 : tie.Need-returns-4
 returns-4 c = simp (ne-eqb _ _ (c .before .before .before .if1 .left), ne-eqb _ _ (c .before .before .if2 .left), eq-eqb _ _ (c .before .if3 .taken), le-leb _ _ (c .if4 .left))
 
 returns-5 : tie.Need-returns-5
 returns-5 c = simp (ne-eqb _ _ (c .before .before .before .before .if1 .left), ne-eqb _ _ (c .before .before .before .if2 .left), ne-eqb _ _ (c .before .before .if3 .left), eq-eqb _ _ (c .before .if5 .taken), lt-leb _ _ (c .if6 .taken))
-
-cast-t9 : tie.Need-cast-t9
-cast-t9 c = search needs
 
 returns-6 : tie.Need-returns-6
 returns-6 c = simp (ne-eqb _ _ (c .before .before .before .before .if1 .left), ne-eqb _ _ (c .before .before .before .if2 .left), ne-eqb _ _ (c .before .before .if3 .left), eq-eqb _ _ (c .before .if5 .taken), le-leb _ _ (c .if6 .left))
@@ -42,10 +33,10 @@ aim-of-spec =
     returns
     returns-2
     returns-3
-    cast-t5
-    add-t6
+    (λ c. search needs)
+    (λ c. search needs)
     returns-4
     returns-5
-    cast-t9
+    (λ c. search needs)
     returns-6
     returns-7)

@@ -8,17 +8,11 @@ use Rattle.node.proofs.Addressing.{out-of-reach, no-sender, other-type,
 use Rattle.node.proofs.meant.is_meant.Statement.{statement}
 use Rattle.node.proofs.meant.is_meant.Tie as tie
 
-reaches-requires : tie.Need-reaches-requires
-reaches-requires c κs = search needs
-
 returns : tie.Need-returns
 returns c =
     let r = c .before in
     let x = r .before .before .before .before .args in
     sym (out-of-reach (x .settings) (x .groups) (x .request) (found-false (r .reaches .ensures) (c .if1 .taken)))
-
-is-sender-requires : tie.Need-is-sender-requires
-is-sender-requires c κs = search needs
 
 returns-2 : tie.Need-returns-2
 returns-2 c =
@@ -28,9 +22,6 @@ returns-2 c =
     sym (no-sender (x .settings) (x .groups) (x .request)
     (found-true (r .reaches .ensures) (s .before .if1 .left))
     (found-false (s .is-sender .ensures) (c .if2 .taken)))
-
-suits-requires : tie.Need-suits-requires
-suits-requires c κs = search needs
 
 returns-3 : tie.Need-returns-3
 returns-3 c =
@@ -42,9 +33,6 @@ returns-3 c =
     (found-true (r .reaches .ensures) (s .before .if1 .left))
     (found-true (s .is-sender .ensures) (t .before .if2 .left))
     (found-false (t .suits .ensures) (c .if3 .taken)))
-
-is-reply-requires : tie.Need-is-reply-requires
-is-reply-requires c κs = search needs
 
 returns-4 : tie.Need-returns-4
 returns-4 c =
@@ -62,11 +50,11 @@ pub is-meant-spec : {M : Type 1} → statement M
 is-meant-spec =
     tie.close
     (tie.spec
-    reaches-requires
+    (λ c κs. search needs)
     returns
-    is-sender-requires
+    (λ c κs. search needs)
     returns-2
-    suits-requires
+    (λ c κs. search needs)
     returns-3
-    is-reply-requires
+    (λ c κs. search needs)
     returns-4)

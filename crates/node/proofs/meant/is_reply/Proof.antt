@@ -8,7 +8,8 @@ use Rattle.node.specs.Meant.{isReply}
 use Rattle.node.proofs.meant.is_reply.Statement.{statement}
 use Rattle.node.proofs.meant.is_reply.Tie as tie
 
-no-reply : (m : ℕ) → ¬ (m ≡ 0x0D) → ¬ (m ≡ 0x0F) → ¬ (m ≡ 0x33) → ¬ (m ≡ 0x35) → ¬ (m ≡ 0x36) → ¬ (m ≡ 0x37) → ¬ (m ≡ 0x60) → ¬ (m ≡ 0x61) → ¬ (m ≡ 0x65) → ¬ (m ≡ 0x6C) → ¬ (m ≡ 0x6F) → ¬ (m ≡ 0x71) → ¬ (m ≡ 0x75) → ¬ (m ≡ 0x7F)
+no-reply : (m : ℕ) → ¬ (m ≡ 0x0D) → ¬ (m ≡ 0x0F) → ¬ (m ≡ 0x33) → ¬ (m ≡ 0x35) → ¬ (m ≡ 0x36) → ¬ (m ≡ 0x37) → ¬ (m ≡ 0x60) → ¬ (m ≡ 0x61)
+    → ¬ (m ≡ 0x65) → ¬ (m ≡ 0x6C) → ¬ (m ≡ 0x6F) → ¬ (m ≡ 0x71) → ¬ (m ≡ 0x75) → ¬ (m ≡ 0x7F)
     → isReply m ≡ false
 no-reply m a b c d e f g h i j k l n o =
     rw (

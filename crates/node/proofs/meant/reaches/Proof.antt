@@ -9,17 +9,8 @@ use Rattle.node.proofs.meant.reaches.Tie as tie
 returns : tie.Need-returns
 returns c = simp (eq-eqb _ _ (c .if1 .taken))
 
-is-broadcast-requires : tie.Need-is-broadcast-requires
-is-broadcast-requires c κs = search needs
-
 returns-2 : tie.Need-returns-2
 returns-2 c = simp (ne-eqb _ _ (c .before .before .if1 .left), sym (c .before .is-broadcast .ensures) ∙ c .if2 .taken)
-
-is-group-requires : tie.Need-is-group-requires
-is-group-requires c κs = search needs
-
-in-table-requires : tie.Need-in-table-requires
-in-table-requires c κs = search needs
 
 returns-3 : tie.Need-returns-3
 returns-3 c = simp (ne-eqb _ _ (c .before .before .before .before .before .if1 .left), sym (c .before .before .before .before .is-broadcast .ensures) ∙ c .before .before .before .if2 .left, sym (c .before .before .is-group .ensures) ∙ c .before .if3 .taken, c .in-table .ensures)
@@ -32,9 +23,9 @@ reaches-spec =
     tie.close
     (tie.spec
     returns
-    is-broadcast-requires
+    (λ c κs. search needs)
     returns-2
-    is-group-requires
-    in-table-requires
+    (λ c κs. search needs)
+    (λ c κs. search needs)
     returns-3
     returns-4)

@@ -1,0 +1,68 @@
+// What a message comes to.
+use crate::code::Code;
+use board::Change;
+use board::Node;
+ghost use mathlib.Core.Path.{_≡_};
+ghost use Rattle.messages.specs.declared.outcome.Say.the-variants.{Post};
+ghost use Rattle.messages.specs.Outcome.{outcome, acts, refuses};
+ghost use Rattle.board.specs.declared.groups.Change.the-variants.{Keep};
+
+// What is to be said to whoever asks for an answer.
+pub enum Say {
+    // A SET or CTRL was carried out.
+    Done,
+    // A GET: MSG of its POST.
+    Post(u8),
+    Refuse(Code),
+}
+
+pub struct Outcome {
+    // The node afterwards.
+    pub node: Node,
+    pub change: Change,
+    pub say: Say,
+    // DATA of what is said, then zeros: that of a POST, or the code of a refusal.
+    pub count: usize,
+    pub content: [u8; 20],
+}
+
+// A SET or CTRL carried out.
+pub(crate) fn acts(after: Node, change: Change) -> Outcome
+    ensures { λ r. ⌜ r ≡ acts after change ⌝ }
+{
+    Outcome {
+        node: after,
+        change,
+        say: Say::Done,
+        count: 0,
+        content: [0u8; 20],
+    }
+}
+
+// A GET changes nothing.
+pub(crate) fn posts(node: Node, message: u8, count: usize, content: [u8; 20]) -> Outcome
+    ensures { λ r. ⌜ r ≡ outcome node Keep (Post message) count content ⌝ }
+{
+    Outcome {
+        node,
+        change: Change::Keep,
+        say: Say::Post(message),
+        count,
+        content,
+    }
+}
+
+// A refusal changes nothing.
+pub(crate) fn refuses(node: Node, code: Code) -> Outcome
+    ensures { λ r. ⌜ r ≡ refuses node code ⌝ }
+{
+    let mut content = [0u8; 20];
+    content[0] = code.number();
+    Outcome {
+        node,
+        change: Change::Keep,
+        say: Say::Refuse(code),
+        count: 1,
+        content,
+    }
+}
