@@ -31,13 +31,19 @@ use Rattle.board.specs.declared.whole.Node.{Node}
 use Rattle.board.specs.declared.events.After.{After}
 use Rattle.board.specs.declared.events.Verdict.{Verdict}
 use Rattle.board.proofs.StateRows.{by-settings}
-use Rattle.board.proofs.Refusals.{refused-pulse-changes-nothing, refused-blocking-changes-nothing, refused-clearing-changes-nothing, refused-power-up-changes-nothing}
-use Rattle.turn.specs.Turn.{Groups}
-use Rattle.turn.specs.declared.turn.Answer as turn
+use Rattle.board.proofs.Refusals.{
+  refused-pulse-changes-nothing,
+  refused-blocking-changes-nothing,
+  refused-clearing-changes-nothing,
+  refused-power-up-changes-nothing,
+}
+use Rattle.board.specs.Groups.{Groups}
+use Rattle.node.specs.declared.turn.Answer as turn
 use Rattle.node.specs.Frames.{turnOf}
-use Rattle.node.specs.Meant.{isIn}
-use Rattle.node.proofs.Passing.{IsOneOf, is-in}
-use Rattle.node.proofs.Laws.{Untouched, zero-is-one, refused-by-a-number-changes-nothing}
+use Rattle.meaning.specs.Membership.{isIn, IsOneOf, is-in}
+use Rattle.meaning.specs.Cases.{zero-is-one}
+use Rattle.node.specs.Replies.{Untouched}
+use Rattle.node.proofs.Laws.{refused-by-a-number-changes-nothing}
 use Rattle.motors.specs.Filing.{filedOf, struckOf}
 use Rattle.motors.specs.declared.answer.Answer as motors
 use Rattle.motors.proofs.FilingLaws.{a-refused-frame-changes-no-record}
@@ -77,7 +83,8 @@ module _ {P : Type 0} where
   no-bundle : (k : ℕ) → isIn k noFrame ≡ false → IsOneOf k noFrame → P
   no-bundle k e i = absurd (false≢true (sym e ∙ is-in k noFrame i))
 
-write : (buffer : List ℕ) (place : ℕ) (h : Header) (d : List ℕ) → writeNumber (writingOf (length buffer) place h d) ≢ 0 → bufferWritten buffer place h d ≡ buffer
+write : (buffer : List ℕ) (place : ℕ) (h : Header) (d : List ℕ) → writeNumber (writingOf (length buffer) place h d) ≢ 0
+    → bufferWritten buffer place h d ≡ buffer
 write buffer place h d k = of-writing (writingOf (length buffer) place h d) k (refused-writes-nothing buffer place h d)
 
 -- ---- a refused bundle is dropped

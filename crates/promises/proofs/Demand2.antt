@@ -6,21 +6,53 @@ use mathlib.Core.Path.{_≡_}
 use mathlib.Core.List.{List}
 use lib.ListN.{length}
 use Rattle.frame.proofs.Frames.{frame-exactly-when}
-use Rattle.frame.proofs.Buffers.{written-exactly-when, writable-is-written, untouched-before, untouched-behind, length-kept, read-of-written, written-of-read}
+use Rattle.frame.proofs.Buffers.{
+  written-exactly-when,
+  writable-is-written,
+  untouched-before,
+  untouched-behind,
+  length-kept,
+  read-of-written,
+  written-of-read,
+}
 use Rattle.travel.specs.Position.{percent-nearest, pulse-nearest, there-and-back}
 use Rattle.board.proofs.Ranges.{sound-exactly-when}
-use Rattle.node.proofs.Laws.{meant-is-carried-out, not-meant-is-silent, a-reply-message-is-never-answered, every-state-passes-row-33-again, every-reply-is-a-frame-to-the-asker}
+use Rattle.node.proofs.Laws.{
+  meant-is-carried-out,
+  not-meant-is-silent,
+  a-reply-message-is-never-answered,
+  every-state-passes-row-33-again,
+  an-entry-put-is-one-of-the-sixteen,
+  every-reply-is-a-frame-to-the-asker,
+}
 use Rattle.node.proofs.Sent.{every-message-sent-is-a-reply}
+use Rattle.node.proofs.Histories.{sound-from-set-up, every-message-sent-since-set-up-is-a-reply, every-reply-since-set-up-is-a-frame-to-the-asker}
 use Rattle.motors.specs.Filing.{filedOf, struckOf}
 use Rattle.motors.specs.declared.motor.Motor.{Motor}
 use Rattle.motors.specs.declared.answer.Answer.the-variants.{Count}
 use Rattle.motors.proofs.Register.{the-count-is-the-number-of-records-held, each-record-is-before-the-later-ones, each-record-is-right}
-use Rattle.motors.proofs.FilingLaws.{a-position-report-is-kept, a-motor-that-names-itself-is-held, a-60h-changes-no-reading, every-other-motor-is-untouched, the-same-number-on-another-line-is-untouched, no-motor-held-is-lost}
+use Rattle.motors.proofs.FilingLaws.{
+  a-position-report-is-kept,
+  a-motor-that-names-itself-is-held,
+  a-60h-changes-no-reading,
+  every-other-motor-is-untouched,
+  the-same-number-on-another-line-is-untouched,
+  no-motor-held-is-lost,
+}
 use Rattle.motors.proofs.FilingLaws as filing
 use Rattle.motors.proofs.StrikingLaws.{the-motor-struck-out-is-gone, every-other-motor-stays, one-place-is-given-back}
 use Rattle.motors.proofs.StrikingLaws as striking
-use Rattle.form.proofs.FormLaws.{a-register-written-and-read-again-is-the-same, a-form-read-and-written-again-is-the-same, an-accepted-form-gives-a-sound-register}
-use Rattle.promises.specs.Demand2.{Frames, Board, Positions, Filed, StruckOut, Register, StoredForm, Demand2}
+use Rattle.form.proofs.FormLaws.{
+  a-register-written-and-read-again-is-the-same,
+  a-form-read-and-written-again-is-the-same,
+  an-accepted-form-gives-a-sound-register,
+}
+use Rattle.promises.specs.Demand2.Frames.{Frames}
+use Rattle.promises.specs.Demand2.Board.{Board}
+use Rattle.promises.specs.Demand2.Positions.{Positions}
+use Rattle.promises.specs.Demand2.Register.{Filed, StruckOut, Register}
+use Rattle.promises.specs.Demand2.StoredForm.{StoredForm}
+use Rattle.promises.specs.Demand2.{Demand2}
 use Rattle.promises.proofs.GroupTable.{group-table}
 use Rattle.promises.proofs.Events.{events}
 use Rattle.promises.proofs.Effects.{effects}
@@ -70,9 +102,17 @@ board =
       meant-is-carried-out-by-the-table = meant-is-carried-out;
       not-meant-does-nothing = not-meant-is-silent;
       board-once-sound-always-sound = λ n g b s. every-state-passes-row-33-again n g b s .still-sound;
+      only-the-sixteen-entries-are-put = an-entry-put-is-one-of-the-sixteen;
       a-reply-gets-no-reply = a-reply-message-is-never-answered;
       all-that-is-sent-is-a-reply = every-message-sent-is-a-reply;
       every-reply-is-a-frame-to-the-asker = every-reply-is-a-frame-to-the-asker;
+      since-set-up =
+          λ s r h history.
+          record {
+            it-is-sound = sound-from-set-up s r h history;
+            all-that-it-sends-is-a-reply = every-message-sent-since-set-up-is-a-reply s r h history;
+            every-reply-of-it-is-a-frame-to-the-asker = every-reply-since-set-up-is-a-frame-to-the-asker s r h history;
+          };
       group-table = group-table;
       events = events;
       what-a-message-does = effects;

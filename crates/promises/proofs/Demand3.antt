@@ -10,7 +10,8 @@ use Rattle.line.specs.Reader.{isSound, ranOf}
 use Rattle.line.specs.declared.reader.Reader.{Reader}
 use Rattle.line.proofs.Demand3.{demand-3}
 use Rattle.line.proofs.Machine.{agrees}
-use Rattle.line.proofs.Running.{Steps, run-is-steps}
+use Rattle.line.specs.Telling.{Steps}
+use Rattle.line.proofs.Running.{run-is-steps}
 use Rattle.line.proofs.Sense.{recorded}
 use Rattle.line.proofs.Steps.{run-goes}
 use Rattle.promises.specs.Demand3.{Demand3}

@@ -8,10 +8,9 @@ use Rattle.frame.proofs.Determined as Frame
 use Rattle.line.proofs.Determined as Line
 use Rattle.travel.proofs.Determined as Travel
 use Rattle.board.proofs.Determined as Board
-use Rattle.turn.proofs.Determined as Turn
 use Rattle.messages.proofs.Determined as Messages
 use Rattle.node.proofs.Determined as Node
-use Rattle.node.proofs.Laws.{zero-is-one}
+use Rattle.meaning.specs.Cases.{zero-is-one}
 use Rattle.motors.proofs.Determined as Motors
 use Rattle.form.proofs.Determined as Form
 use Rattle.register.proofs.Determined as Register
@@ -25,7 +24,6 @@ determined =
       line = Line.determined;
       travel = Travel.determined;
       board = Board.determined;
-      turn = Turn.determined;
       messages = Messages.determined;
       node = Node.determined;
       motors = Motors.determined;

@@ -1,46 +1,48 @@
 -- What an accepted message does to the board, row by row of the message table.
 -- Assumes nothing.
-use Prim.Native.Nat.{ℕ, _≤_}
-use mathlib.Core.Path.{_≡_, refl, _∙_, sym, ap}
+use Prim.Native.Nat.{ℕ, _≤_, _<_}
+use native.Mathlib.Omega.{arith}
+use mathlib.Core.Path.{_≡_, refl, _∙_, sym, ap, subst}
+use mathlib.Core.Logic.{_⊎_, inl, inr}
 use mathlib.Core.Bool.{true, false}
 use mathlib.Core.List.{List}
 use borrow.Author.Tests.{le-leb, le-ltb, eq-eqb, ne-eqb}
 use lib.ListN.{length}
 use Rattle.meaning.specs.Choice.{either}
+use Rattle.meaning.specs.Membership.{isIn}
 use Rattle.frame.specs.Layout.{message, source, headerOf, dataOf}
 use Rattle.travel.specs.Units.{percent, ip}
-use Rattle.travel.specs.Position.{pulseOfPercent}
 use Rattle.travel.specs.declared.IpIndex.{IpIndex}
 use Rattle.travel.specs.declared.Pulse.{Pulse}
 use Rattle.board.specs.Drive.{halted, haltedFrom, movedTo}
-use Rattle.board.specs.Favourites.{isNumber, withIp, sharedOut}
-use Rattle.board.specs.Lock.{admits, locked, unlocked, saving}
+use Rattle.board.specs.Favourites.{isNumber, isSet, pulseOf}
+use Rattle.board.specs.Lock.{admits, locked}
 use Rattle.board.specs.Node.{withDrive, withFavourites, withLock}
 use Rattle.board.specs.declared.drive.Drive.{Drive}
 use Rattle.board.specs.declared.drive.Motion.{Motion}
 use Rattle.board.specs.declared.drive.Motion.the-variants.{Still, Running}
-use Rattle.board.specs.declared.favourites.Favourites.{Favourites}
-use Rattle.board.specs.declared.favourites.Ip.the-variants.{Unset, At}
-use Rattle.board.specs.declared.lock.Lock.{Lock}
+use Rattle.board.specs.declared.favourites.Ip.{Ip}
+use Rattle.board.specs.declared.favourites.Ip.the-variants.{At}
 use Rattle.board.specs.declared.whole.Node.{Node}
-use Rattle.turn.specs.Turn.{Groups}
-use Rattle.turn.specs.Replies.{acts}
-use Rattle.turn.specs.declared.turn.Change.{Change}
-use Rattle.turn.specs.declared.turn.Change.the-variants.{Keep, Put}
-use Rattle.turn.specs.declared.turn.Turn.{Turn}
-use Rattle.messages.specs.Fields.{byteAt, wordAt}
+use Rattle.board.specs.Groups.{Groups}
+use Rattle.board.specs.declared.groups.Change.{Change}
+use Rattle.board.specs.declared.groups.Change.the-variants.{Keep, Put}
+use Rattle.frame.specs.Words.{wordAt}
+use Rattle.messages.specs.Fields.{byteAt}
+use Rattle.messages.specs.Outcome.{acts}
 use Rattle.messages.specs.Motor.{aimOf, isAim, targetOf}
-use Rattle.messages.specs.Ips.{shareOrder, orderOf, keepingIps, deletingFrom, settingIp}
-use Rattle.messages.specs.Locking.{keepingLock, settingLock}
+use Rattle.messages.specs.Ips.{shareOrder, orderIn, isOrder, findsItsIp, ordered}
+use Rattle.messages.specs.Locking.{lockFunctions, lockedBy}
 use Rattle.messages.specs.Table.{outcomeOf}
 use Rattle.messages.specs.declared.favourites.Order.{Order}
 use Rattle.messages.specs.declared.favourites.Order.the-variants.{Delete, Here, AtPercent, Share}
 use Rattle.messages.proofs.Messages.{at-02, at-03, at-15, at-16, at-51}
-use Rattle.messages.proofs.Rows.{stop-done, move-aimed, move-free, set-ip-ordered, set-lock-by, function-0, function-1, function-3, function-4, unlock-done, lock-done, set-group-done}
+use Rattle.messages.proofs.Rows.{stop-at, move-at, set-ip-at, set-lock-at, set-group-at}
 use Rattle.messages.proofs.Orders.{sharing, deleting, here, percent-at}
 use Rattle.node.specs.Frames.{turnOf}
+use Rattle.node.specs.declared.turn.Turn.{Turn}
 use Rattle.node.proofs.Laws.{meant-is-carried-out}
-use Rattle.promises.specs.Demand2.{Arrives, AimedAt, down, up, to-IP, to-percent, Effects}
+use Rattle.promises.specs.Demand2.Effects.{Arrives, AimedAt, down, up, to-IP, to-percent, Effects}
 
 halted-is-still : (motion : Motion) (d : Drive) → d .motion ≡ motion → haltedFrom motion d .motion ≡ Still
 halted-is-still Still d e = e
@@ -67,7 +69,7 @@ module _ (n : Node) (g : Groups) (b : List ℕ) (a : Arrives n g b) where
   content = dataOf b
 
   -- A message that acts leaves its node and its change, whether or not it is answered.
-  acted : (after : Node) (change : Change) → outcomeOf n g (headerOf b) content ≡ acts after change
+  acted : (after : Node) (change : Change) → outcomeOf n g (source b) (message b) content ≡ acts after change
       → (turnOf n g b .node ≡ after) × (turnOf n g b .change ≡ change)
   acted after change o =
       rw (meant-is-carried-out n g b (a .is-sound) (a .is-frame) (a .is-meant), o)
@@ -75,33 +77,31 @@ module _ (n : Node) (g : Groups) (b : List ℕ) (a : Arrives n g b) where
 
   stopped : message b ≡ 0x02 → 1 ≤ length content → n .lock .locked ≡ false → turnOf n g b .node ≡ withDrive n (halted (n .drive))
   stopped m h free =
-      acted (withDrive n (halted (n .drive))) Keep
-      (at-02 n g (headerOf b) content m ∙ stop-done n content (le-leb 1 (length content) h) free) .0
+      acted (withDrive n (halted (n .drive))) Keep (at-02 n g (source b) (message b) content m ∙ stop-at n content 2 (h, (free, tt))) .0
 
   moved : message b ≡ 0x03 → 4 ≤ length content → n .lock .locked ≡ false → n .drive .blocked ≡ false → (target : Pulse) → AimedAt n content target
       → turnOf n g b .node ≡ withDrive n (movedTo (n .drive) target)
   moved m h free clear target aim =
+      let at = sym (aims-at n content target aim) in
       acted (withDrive n (movedTo (n .drive) target)) Keep
-      (at-03 n g (headerOf b) content m
-      ∙ move-aimed n content (byteAt content 0) (wordAt content 1) (aimOf (byteAt content 0) (wordAt content 1)) (le-leb 4 (length content) h) refl refl refl
-      ∙ move-free n (aimOf (byteAt content 0) (wordAt content 1)) (is-aim n content target aim) (At target) free clear (aims-at n content target aim)) .0
+      (at-03 n g (source b) (message b) content m
+      ∙ move-at n content 5 (h, (is-aim n content target aim, (free, (clear, (ap isSet at, tt)))))
+      ∙ ap (λ (x : Ip). acts (withDrive n (movedTo (n .drive) (pulseOf x))) Keep) at) .0
+
+  -- 16h: the function and what it makes of the lock.
+  lock-set : (function : ℕ) → message b ≡ 0x16 → 2 ≤ length content → byteAt content 0 ≡ function → isIn function lockFunctions ≡ true
+      → (1 < function) ⊎ (admits (n .lock) (byteAt content 1) ≡ true)
+      → turnOf n g b .node ≡ lockedBy n (source b) function (byteAt content 1)
+  lock-set function m h f listed admitted =
+      acted (lockedBy n (source b) function (byteAt content 1)) Keep
+      (at-16 n g (source b) (message b) content m
+      ∙ set-lock-at n content 3 (source b)
+      (h, (ap (λ (k : ℕ). isIn k lockFunctions) f ∙ listed, (subst (λ (k : ℕ). (1 < k) ⊎ (admits (n .lock) (byteAt content 1) ≡ true)) (sym f) admitted, tt)))
+      ∙ ap (λ (k : ℕ). acts (lockedBy n (source b) k (byteAt content 1)) Keep) f) .0
 
   locking : message b ≡ 0x16 → 2 ≤ length content → byteAt content 0 ≡ 1 → (n .lock .locked ≡ true → n .lock .priority ≤ byteAt content 1)
       → turnOf n g b .node ≡ withLock (withDrive n (halted (n .drive))) (locked (n .lock) (source b) (byteAt content 1))
-  locking m h f p =
-      acted (withLock (withDrive n (halted (n .drive))) (locked (n .lock) (source b) (byteAt content 1))) Keep
-      (at-16 n g (headerOf b) content m
-      ∙ set-lock-by n (source b) content (byteAt content 0) (byteAt content 1) (le-leb 2 (length content) h) refl refl
-      ∙ function-1 n (source b) (byteAt content 0) (byteAt content 1) f
-      ∙ lock-done n (source b) (byteAt content 1) (admitted n (byteAt content 1) p)) .0
-
-  lock-set : (l : Lock) → message b ≡ 0x16 → 2 ≤ length content
-      → settingLock n (source b) (byteAt content 0) (byteAt content 1) ≡ keepingLock n l → turnOf n g b .node ≡ withLock n l
-  lock-set l m h o =
-      acted (withLock n l) Keep
-      (at-16 n g (headerOf b) content m
-      ∙ set-lock-by n (source b) content (byteAt content 0) (byteAt content 1) (le-leb 2 (length content) h) refl refl
-      ∙ o) .0
+  locking m h f p = lock-set 1 m h f refl (inr (admitted n (byteAt content 1) p))
 
   -- 15h: the order that its fields give.
   abbrev index : IpIndex
@@ -110,13 +110,13 @@ module _ (n : Node) (g : Groups) (b : List ℕ) (a : Arrives n g b) where
   numbered : 1 ≤ byteAt content 1 → byteAt content 1 ≤ 16 → isNumber index ≡ true
   numbered l u = rw (le-leb 1 (byteAt content 1) l, le-leb (byteAt content 1) 16 u)
 
-  ordered : (order : Order) (f : Favourites) → message b ≡ 0x15 → 4 ≤ length content → orderOf (byteAt content 0) index (wordAt content 2) ≡ order
-      → settingIp n order ≡ keepingIps n f → turnOf n g b .node ≡ withFavourites n f
-  ordered order f m h o e =
-      acted (withFavourites n f) Keep
-      (at-15 n g (headerOf b) content m
-      ∙ set-ip-ordered n content (byteAt content 0) (byteAt content 1) (wordAt content 2) order (le-leb 4 (length content) h) refl refl refl (sym o)
-      ∙ e) .0
+  carried : (order : Order) → message b ≡ 0x15 → 4 ≤ length content → orderIn content ≡ order → isOrder order ≡ true
+      → findsItsIp (n .favourites) order ≡ true → turnOf n g b .node ≡ withFavourites n (ordered n order)
+  carried order m h o is finds =
+      acted (withFavourites n (ordered n order)) Keep
+      (at-15 n g (source b) (message b) content m
+      ∙ set-ip-at n content 3 (h, (ap isOrder o ∙ is, (ap (findsItsIp (n .favourites)) o ∙ finds, tt)))
+      ∙ ap (λ (x : Order). acts (withFavourites n (ordered n x)) Keep) o) .0
 
   shared : (value : ℕ) → 1 ≤ value → value ≤ 16 → shareOrder value ≡ Share value
   shared value l u = rw (le-ltb value 1 l, le-ltb 16 value u)
@@ -134,33 +134,22 @@ module _ (n : Node) (g : Groups) (b : List ℕ) (a : Arrives n g b) where
         a-group-is-stored =
             λ m h i.
             acted n (Put (byteAt content 0) (byteAt content 1) (byteAt content 2) (byteAt content 3))
-            (at-51 n g (headerOf b) content m
-            ∙ set-group-done n content (byteAt content 0) (le-leb 4 (length content) h) refl (byteAt content 1) (byteAt content 2) (byteAt content 3) i refl refl refl) .1;
+            (at-51 n g (source b) (message b) content m ∙ set-group-at n content 2 (h, (i, tt))) .1;
         a-lock-is-held-by-its-sender = λ m h f p. ap (λ (x : Node). x .lock) (locking m h f p);
         a-locked-motor-does-not-run =
             λ m h f p. ap (λ (x : Node). x .drive .motion) (locking m h f p) ∙ halted-is-still (n .drive .motion) (n .drive) refl;
-        an-unlocked-board-has-no-holder =
-            λ m h f p.
-            lock-set (unlocked (n .lock)) m h
-            (function-0 n (source b) (byteAt content 0) (byteAt content 1) f
-            ∙ unlock-done n (source b) (byteAt content 1) (admitted n (byteAt content 1) p));
-        a-lock-is-saved = λ m h f. lock-set (saving (n .lock) true) m h (function-3 n (source b) (byteAt content 0) (byteAt content 1) f);
-        a-lock-is-saved-no-more = λ m h f. lock-set (saving (n .lock) false) m h (function-4 n (source b) (byteAt content 0) (byteAt content 1) f);
+        an-unlocked-board-has-no-holder = λ m h f p. lock-set 0 m h f refl (inr (admitted n (byteAt content 1) p));
+        a-lock-is-saved = λ m h f. lock-set 3 m h f refl (inl (omega arith));
+        a-lock-is-saved-no-more = λ m h f. lock-set 4 m h f refl (inl (omega arith));
         an-IP-is-deleted =
-            λ m h f l u p e.
-            ordered (Delete index) (withIp (n .favourites) index Unset) m h (deleting (byteAt content 0) index (wordAt content 2) (numbered l u) f)
-            (ap (deletingFrom n index) e);
-        an-IP-is-set-here =
-            λ m h f l u.
-            ordered (Here index) (withIp (n .favourites) index (At (n .drive .position))) m h
-            (here (byteAt content 0) index (wordAt content 2) (numbered l u) f) refl;
+            λ m h f l u p e. carried (Delete index) m h (deleting (byteAt content 0) index (wordAt content 2) (numbered l u) f) refl (ap isSet e);
+        an-IP-is-set-here = λ m h f l u. carried (Here index) m h (here (byteAt content 0) index (wordAt content 2) (numbered l u) f) refl refl;
         an-IP-is-set-at-a-percent =
             λ m h f l u v.
-            ordered (AtPercent index (percent (wordAt content 2)))
-            (withIp (n .favourites) index (At (pulseOfPercent (percent (wordAt content 2)) (n .settings .travel)))) m h
-            (percent-at (byteAt content 0) index (wordAt content 2) (numbered l u) f v) refl;
+            carried (AtPercent index (percent (wordAt content 2))) m h
+            (percent-at (byteAt content 0) index (wordAt content 2) (numbered l u) f v) refl refl;
         IPs-are-shared-out =
             λ m h f l u.
-            ordered (Share (wordAt content 2)) (sharedOut (wordAt content 2) (n .settings .travel)) m h
-            (sharing (byteAt content 0) index (wordAt content 2) f ∙ shared (wordAt content 2) l u) refl;
+            carried (Share (wordAt content 2)) m h
+            (sharing (byteAt content 0) index (wordAt content 2) f ∙ shared (wordAt content 2) l u) refl refl;
       }

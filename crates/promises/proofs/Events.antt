@@ -15,13 +15,13 @@ use Rattle.board.specs.declared.drive.Motion.{Motion}
 use Rattle.board.specs.declared.drive.Motion.the-variants.{Still, Running}
 use Rattle.board.specs.declared.events.After.{After}
 use Rattle.board.specs.declared.whole.Node.{Node}
-use Rattle.board.proofs.EventRows.{set-up-done, pulse-done, blocked-done, cleared-done, power-up-done}
+use Rattle.board.proofs.EventRows.{set-up-at, pulse-at, blocked-at, cleared-at, power-up-at}
 use Rattle.board.proofs.PowerUp.{power-up-keeps-and-clears}
 use Rattle.board.proofs.Ranges.{settings-exactly-when}
 use Rattle.board.proofs.Sound.{fresh-is-sound, at-pulse-keeps-sound, blocked-keeps-sound, cleared-keeps-sound, power-up-keeps-sound}
-use Rattle.node.proofs.Passing.{IsOneOf, as-first, as-later}
-use Rattle.motors.proofs.Cases.{by-test}
-use Rattle.promises.specs.Demand2.{Reached, Events}
+use Rattle.meaning.specs.Cases.{by-test}
+use Rattle.meaning.specs.Membership.{IsOneOf, as-first, as-later}
+use Rattle.promises.specs.Demand2.Events.{Reached, Events}
 
 reached-so : (direction : ℕ) (target p : Pulse) → Reached direction target p → reached (Running target) direction p ≡ true
 reached-so direction target p (inl (up, h)) = rw (eq-eqb direction 1 up, le-leb (p .0) (target .0) h)
@@ -44,11 +44,12 @@ module _ (n : Node) (p : Pulse) (s : sound n ≡ true) (within : p .0 ≤ n .set
       → afterPulse n p ≡ done (withDrive n (drive p Still (n .drive .direction) 0 0 (n .drive .blocked)))
   stops target runs there =
       let r : reached (n .drive .motion) (n .drive .direction) p ≡ true = rw runs (reached-so (n .drive .direction) target p there) in
-      pulse-done n s p within ∙ rw r
+      pulse-at n 2 p (s, (within, tt)) ∙ rw r
 
   goes-on : ((target : Pulse) → n .drive .motion ≡ Running target → ¬ Reached (n .drive .direction) target p)
-      → afterPulse n p ≡ done (withDrive n (drive p (n .drive .motion) (n .drive .direction) (n .drive .source) (n .drive .cause) (n .drive .blocked)))
-  goes-on none = pulse-done n s p within ∙ rw (not-reached (n .drive .motion) (n .drive .direction) p none)
+      → afterPulse n p
+      ≡ done (withDrive n (drive p (n .drive .motion) (n .drive .direction) (n .drive .source) (n .drive .cause) (n .drive .blocked)))
+  goes-on none = pulse-at n 2 p (s, (within, tt)) ∙ rw (not-reached (n .drive .motion) (n .drive .direction) p none)
 
 blocking : (cause : ℕ) → IsOneOf cause (0x20 ∷ 0x21 ∷ 0x22 ∷ []) → blocks cause ≡ true
 blocking cause (as-first e) = rw e
@@ -58,12 +59,12 @@ blocking cause (as-later (as-later (as-first e))) = rw e
 pub events : Events
 events =
     record {
-      set-up-gives-the-fresh-node = λ s r. let i = settings-exactly-when s .0 r in (set-up-done s i, fresh-is-sound s i);
+      set-up-gives-the-fresh-node = λ s r. let i = settings-exactly-when s .0 r in (set-up-at s 1 (i, tt), fresh-is-sound s i);
       a-motor-that-reaches-its-target-stops-there = λ n p target s h. stops n p s h target;
       any-other-pulse-is-the-position-alone = λ n p s. goes-on n p s;
-      a-blocked-motor-stops = λ n cause s c. blocked-done n s cause (blocking cause c);
-      a-cleared-motor-is-not-blocked = cleared-done;
-      power-up-keeps-and-clears = λ n s. (ap (λ (a : After). a .verdict) (power-up-done n s), power-up-keeps-and-clears n s);
+      a-blocked-motor-stops = λ n cause s c. blocked-at n 2 cause (s, (blocking cause c, tt));
+      a-cleared-motor-is-not-blocked = λ n s. cleared-at n 1 (s, tt);
+      power-up-keeps-and-clears = λ n s. (ap (λ (a : After). a .verdict) (power-up-at n 1 (s, tt)), power-up-keeps-and-clears n s);
       at-a-pulse-still-sound = λ n p s. at-pulse-keeps-sound n s p;
       blocked-still-sound = λ n cause s. blocked-keeps-sound n s cause;
       cleared-still-sound = cleared-keeps-sound;

@@ -1,37 +1,32 @@
 -- The register files a frame exactly when it is fileable, and strikes a motor out exactly when it can: no row applies.
 -- Assumes nothing.
-use Prim.Native.Nat.{ℕ, _<_}
+use Prim.Native.Nat.{ℕ, _≤_, _<_}
 use native.Mathlib.Omega.{arith}
 use mathlib.Core.Path.{_≡_, refl, _∙_, sym, ap, subst}
-use mathlib.Core.Logic.{_↔_, _≢_, _⊎_, inl, inr}
-use mathlib.Core.Bool.{true, false, not}
+use mathlib.Core.Logic.{_↔_, _≢_, _⊎_, inl, inr, ⊎-elim}
+use mathlib.Core.Bool.{true}
 use mathlib.Core.List.{List}
-use lib.Dec.{eqb, ltb}
 use lib.ListN.{length}
-use borrow.Author.Tests.{leb-true, ltb-false, eqb-true, eqb-false, le-leb, ne-eqb, not-false}
-use Rattle.meaning.specs.Choice.{either}
+use Rattle.meaning.specs.Cases.{by-test}
+use Rattle.meaning.specs.Tables.{Row, Passed, no-row-applies, of-decided}
 use Rattle.refusal.specs.declared.Refusal.{Refusal}
-use Rattle.frame.specs.Address.{group}
-use Rattle.frame.specs.Layout.{message, source, destination, headerOf, dataOf, dataCount}
+use Rattle.frame.specs.Layout.{message, source, headerOf, dataOf, dataCount}
 use Rattle.frame.specs.Reading.{IsFrame}
 use Rattle.frame.proofs.Frames.{frame-is-read}
-use Rattle.motors.specs.Motor.{isLine, isNode, isReading, unread, withReading}
-use Rattle.motors.specs.Register.{held, soundOf, found}
-use Rattle.motors.specs.Report.{reported, reportBy, reportOf, pulseIn, percentIn, ipIn}
-use Rattle.motors.specs.Filing.{filedBy, filedOf, isSome, without, struckOf}
+use Rattle.motors.specs.Motor.{aReading}
+use Rattle.motors.specs.Register.{held, soundOf, found, Sound}
+use Rattle.motors.specs.Report.{percentIn, ipIn, reportTable, shownBy, reported, reportBy, reportOf}
+use Rattle.motors.specs.Filing.{keeping, refusing, filedBy, filedOf, isSome, without, strikeTable, struckOf}
 use Rattle.motors.specs.declared.motor.Motor.{Motor}
 use Rattle.motors.specs.declared.answer.Answer.the-variants.{Count}
 use Rattle.motors.specs.declared.answer.Next.{Next}
 use Rattle.motors.specs.declared.report.Report.{Report}
 use Rattle.motors.specs.declared.report.Report.the-variants.{Seen, Refused}
-use Rattle.motors.proofs.Cases.{by-test}
-use Rattle.motors.proofs.InOrder.{Sound, sound-exactly-when}
-use Rattle.motors.proofs.FilingRows.{row-19, as-reported}
-use Rattle.motors.proofs.ReportRows.{named, positioned}
+use Rattle.motors.proofs.InOrder.{sound-exactly-when}
+use Rattle.motors.proofs.Rows.{filed-by, as-reported, struck-by}
 use Rattle.motors.proofs.Shown.{seen}
 use Rattle.motors.proofs.Full.{never-both, taken-exactly-when}
 use Rattle.promises.specs.Fileable.{Fileable, Reports, Strikeable}
-use Rattle.promises.proofs.Facts.{node-so, node-is, reading-so, reading-is}
 
 module _ (run : List Motor) (count line : ℕ) (b : List ℕ) where
   abbrev HasAPlace : Type 0
@@ -52,29 +47,31 @@ module _ (run : List Motor) (count line : ℕ) (b : List ℕ) where
   answer-of : (x : Report) → soundOf run count ≡ true → reportOf line b ≡ x → filedOf run count line b .answer ≡ filedBy run count x .answer
   answer-of x ok e = ap (λ (y : Next). y .answer) (as-reported run count line b x ok e)
 
+  -- What rows 22 and 23 leave of a message that they pass.
+  abbrev NamesOrReports : Type 0
+  NamesOrReports = (message b ≡ 0x60) ⊎ (message b ≡ 0x0D)
+
+  abbrev HasItsReading : Type 0
+  HasItsReading = (message b ≢ 0x0D) ⊎ ((5 ≤ dataCount b) × aReading (percentIn (dataOf b)) (ipIn (dataOf b)) .fact)
+
   -- ---- what is fileable shows a motor, and is filed
-  shows : Fileable run count line b → (m : Motor) × (reportOf line b ≡ Seen m)
-  shows f = by (f .names-or-reports)
+  abbrev table : List (Row Report)
+  table = reportTable line (headerOf b) (dataCount b) (dataOf b)
+
+  no-row : Fileable run count line b → Passed table
+  no-row f =
+      (f .from-line-0-to-3, (((f .sender-from-000001h, f .sender-to-FFFEFFh), f .not-to-a-group), by (f .names-or-reports)))
     where
-      l : isLine line ≡ true
-      l = le-leb line 3 (f .from-line-0-to-3)
-
-      s : isNode (source b .0) ≡ true
-      s = node-so (source b .0) (f .sender-from-000001h) (f .sender-to-FFFEFFh)
-
-      g : eqb (destination b .0) (group .0) ≡ false
-      g = ne-eqb (destination b .0) (group .0) (f .not-to-a-group)
-
-      by : (message b ≡ 0x60) ⊎ Reports b → (m : Motor) × (reportOf line b ≡ Seen m)
-      by (inl m) = (unread line (source b .0), as-read (f .is-frame) ∙ named line (headerOf b) (dataCount b) (dataOf b) l s g m)
+      by : (message b ≡ 0x60) ⊎ Reports b → NamesOrReports × (HasItsReading × Unit {0})
+      by (inl m) = (inl m, (inl (λ e. omega arith), tt))
       by (inr r) =
-          let d = dataOf b in
-          let other : message b ≢ 0x60 = λ e. omega (arith, r .is-0Dh) in (
-            withReading line (source b .0) (pulseIn d) (percentIn d) (ipIn d),
-            as-read (f .is-frame)
-                ∙ positioned line (headerOf b) (dataCount b) d l s g other (r .is-0Dh) (r .from-5-bytes-of-DATA) refl refl refl refl
-                (reading-so (percentIn d) (ipIn d) (r .percent-to-100) (r .IP-1-to-16-or-FFh)),
-          )
+          (inr (r .is-0Dh), (inr (r .from-5-bytes-of-DATA, (r .percent-to-100, ⊎-elim inr inl (r .IP-1-to-16-or-FFh))), tt))
+
+  shows : Fileable run count line b → (m : Motor) × (reportOf line b ≡ Seen m)
+  unfolding reported
+  shows f =
+      let m = shownBy line (headerOf b) (dataOf b) in
+      (m, as-read (f .is-frame) ∙ no-row-applies table (Seen m) (no-row f))
 
   fileable-is-filed : Fileable run count line b → IsFiled
   fileable-is-filed f =
@@ -89,39 +86,28 @@ module _ (run : List Motor) (count line : ℕ) (b : List ℕ) where
   Asked (Seen m) = Sound run count → IsFrame b → HasAPlace → Fileable run count line b
   Asked (Refused q) = Unit {0}
 
-  facts : not (isLine line) ≡ false → not (isNode (source b .0)) ≡ false → eqb (destination b .0) (group .0) ≡ false
-      → (message b ≡ 0x60) ⊎ Reports b → Sound run count → IsFrame b → HasAPlace → Fileable run count line b
-  facts l s g m ok f place =
-      let n = node-is (source b .0) (not-false _ s) in
+  names-or-reports : NamesOrReports → HasItsReading → (message b ≡ 0x60) ⊎ Reports b
+  names-or-reports (inl m) reading = inl m
+  names-or-reports (inr p) (inl other) = absurd (other p)
+  names-or-reports (inr p) (inr (long, (percent, ip))) =
+      inr (record { is-0Dh = p; from-5-bytes-of-DATA = long; percent-to-100 = percent; IP-1-to-16-or-FFh = ⊎-elim inr inl ip })
+
+  facts : Passed table → Sound run count → IsFrame b → HasAPlace → Fileable run count line b
+  facts (few, (sender, (named, (reading, end)))) ok f place =
       record {
         sound-register = ok;
         is-frame = f;
-        from-line-0-to-3 = leb-true line 3 (not-false _ l);
-        sender-from-000001h = n .0;
-        sender-to-FFFEFFh = n .1;
-        not-to-a-group = eqb-false (destination b .0) (group .0) g;
-        names-or-reports = m;
+        from-line-0-to-3 = few;
+        sender-from-000001h = sender .0 .0;
+        sender-to-FFFEFFh = sender .0 .1;
+        not-to-a-group = sender .1;
+        names-or-reports = names-or-reports named reading;
         has-a-place = place;
       }
 
   asked : Asked (reported line (headerOf b) (dataCount b) (dataOf b))
   unfolding reported
-  asked =
-      either Asked (not (isLine line)) (λ t. tt) λ l.
-      either Asked (not (isNode (source b .0))) (λ t. tt) λ s.
-      either Asked (eqb (destination b .0) (group .0)) (λ t. tt) λ g.
-      either Asked (eqb (message b) 0x60) (λ t. facts l s g (inl (eqb-true (message b) 0x60 t))) λ m.
-      either Asked (not (eqb (message b) 0x0D)) (λ t. tt) λ p.
-      either Asked (ltb (dataCount b) 5) (λ t. tt) λ c.
-      either Asked (not (isReading (percentIn (dataOf b)) (ipIn (dataOf b)))) (λ t. tt) λ r.
-      let k = reading-is (percentIn (dataOf b)) (ipIn (dataOf b)) (not-false _ r) in
-      facts l s g
-      (inr (record {
-        is-0Dh = eqb-true (message b) 0x0D (not-false _ p);
-        from-5-bytes-of-DATA = ltb-false (dataCount b) 5 c;
-        percent-to-100 = k .0;
-        IP-1-to-16-or-FFh = k .1;
-      }))
+  asked = of-decided Asked table (Seen (shownBy line (headerOf b) (dataOf b))) (search) facts
 
   reported-was-fileable : soundOf run count ≡ true → (x : Report) → reportOf line b ≡ x → IsFiled → Fileable run count line b
   reported-was-fileable ok (Seen m) e (n, a) =
@@ -135,7 +121,7 @@ module _ (run : List Motor) (count line : ℕ) (b : List ℕ) where
   filed-was-fileable (n, a) =
       by-test (soundOf run count)
       (λ ok. reported-was-fileable ok (reportOf line b) refl (n, a))
-      (λ broken. absurd (never-both _ n Refusal.BrokenRegister a (ap (λ (y : Next). y .answer) (row-19 run count line b broken))))
+      (λ broken. absurd (never-both _ n Refusal.BrokenRegister a (ap (λ (y : Next). y .answer) (filed-by run count line b 0 broken))))
 
   pub filed-exactly-when : Fileable run count line b ↔ IsFiled
   filed-exactly-when = (fileable-is-filed, filed-was-fileable)
@@ -146,25 +132,23 @@ module _ (run : List Motor) (count line node : ℕ) where
   IsStruck x = (n : ℕ) × (x .answer ≡ Count n)
 
   strikeable-is-struck : Strikeable run count line node → IsStruck (struckOf run count line node)
-  unfolding struckOf
   strikeable-is-struck s =
-      rw (sound-exactly-when run count .0 (s .sound-register), le-leb line 3 (s .on-line-0-to-3), s .is-held)
-      (length (without (held run count) line node), refl)
+      let sound = sound-exactly-when run count .0 (s .sound-register) in
+      (length (without (held run count) line node), ap (λ (y : Next). y .answer) (struck-by run count line node 3 (sound, (s .on-line-0-to-3, (s .is-held, tt)))))
 
   abbrev WasStrikeable : Next → Type 0
   WasStrikeable x = IsStruck x → Strikeable run count line node
 
+  refused : (r : Refusal) → WasStrikeable (refusing run r)
+  refused r (n, a) = absurd (never-both _ n r a refl)
+
   struck-was-strikeable : WasStrikeable (struckOf run count line node)
   unfolding struckOf
   struck-was-strikeable =
-      either WasStrikeable (not (soundOf run count)) (λ t (n, a). absurd (never-both _ n Refusal.BrokenRegister a refl)) λ s.
-      either WasStrikeable (not (isLine line)) (λ t (n, a). absurd (never-both _ n Refusal.NoSuchLine a refl)) λ l.
-      either WasStrikeable (not (isSome (found run count line node))) (λ t (n, a). absurd (never-both _ n Refusal.NotHeld a refl)) λ h a.
-      record {
-        sound-register = sound-exactly-when run count .1 (not-false _ s);
-        on-line-0-to-3 = leb-true line 3 (not-false _ l);
-        is-held = not-false _ h;
-      }
+      of-decided WasStrikeable (strikeTable run count line node) (keeping (without (held run count) line node))
+      (refused Refusal.BrokenRegister, (refused Refusal.NoSuchLine, (refused Refusal.NotHeld, tt)))
+      λ (sound, (few, (there, end))) struck.
+      record { sound-register = sound-exactly-when run count .1 sound; on-line-0-to-3 = few; is-held = there }
 
   pub struck-exactly-when : Strikeable run count line node ↔ IsStruck (struckOf run count line node)
   struck-exactly-when = (strikeable-is-struck, struck-was-strikeable)

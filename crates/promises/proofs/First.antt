@@ -1,69 +1,78 @@
--- The first row that applies: a row and the test that decides it, and rows together.
+-- The first row that applies: a table's answer has its number; and rows together.
 -- Assumes nothing.
-use Prim.Native.Nat.{ℕ, _≤_, _<_}
-use native.Mathlib.Omega.{arith}
+use Prim.Native.Nat.{ℕ}
 use mathlib.Core.Path.{_≡_, refl, _∙_, sym}
-use mathlib.Core.Logic.{_≢_, _↔_, _⊎_, inl, inr, ⊎-elim}
-use mathlib.Core.Bool.{Bool, true, false, not, false≢true}
+use mathlib.Core.Logic.{_↔_}
+use mathlib.Core.Bool.{Bool, true, false, false≢true}
 use mathlib.Core.List.{List, [], _∷_, _++_}
-use lib.Dec.{eqb, leb, ltb}
-use borrow.Author.Tests.{leb-true, leb-false, ltb-true, ltb-false, eqb-true, eqb-false, not-true, not-false}
 use Rattle.meaning.specs.Choice.{if_then_else_}
-use Rattle.node.specs.Meant.{isIn}
-use Rattle.node.proofs.Passing.{IsOneOf, as-first, as-later, one-of}
+use Rattle.meaning.specs.Tests.{Test}
+use Rattle.meaning.specs.Tables as tables
+use Rattle.meaning.specs.Tables.{decide, Passed}
+use Rattle.meaning.specs.Membership.{isIn, IsOneOf, as-first, as-later, one-of}
 use Rattle.promises.specs.Rows.{Row, _when_, First, FirstOf, applies, passes, none-applies, in-case}
-
--- ---- a row and its test
-module _ {A : Type 0} (number : A → ℕ) {otherwise : ℕ → Type 0} {rows : List Row} {x y : A} where
-  pub row : {fact : Type 0} (t : Bool) → (t ≡ true → fact) → (t ≡ false → ¬ fact) → (t ≡ false → First otherwise rows (number y))
-      → First otherwise (number x when fact ∷ rows) (number (if t then x else y))
-  row true holds fails later = applies (holds refl)
-  row false holds fails later = passes (fails refl) (later refl)
-
-  pub row-le : (a b : ℕ) → First otherwise rows (number y) → First otherwise (number x when (a ≤ b) ∷ rows) (number (if leb a b then x else y))
-  row-le a b later = row (leb a b) (leb-true a b) (λ t h. omega (arith, leb-false a b t)) (λ t. later)
-
-  pub row-lt : (a b : ℕ) → First otherwise rows (number y) → First otherwise (number x when (a < b) ∷ rows) (number (if ltb a b then x else y))
-  row-lt a b later = row (ltb a b) (ltb-true a b) (λ t h. omega (arith, ltb-false a b t)) (λ t. later)
-
-  pub row-eq : (a b : ℕ) → First otherwise rows (number y) → First otherwise (number x when (a ≡ b) ∷ rows) (number (if eqb a b then x else y))
-  row-eq a b later = row (eqb a b) (eqb-true a b) (eqb-false a b) (λ t. later)
-
-  pub row-ne : (a b : ℕ) → First otherwise rows (number y) → First otherwise (number x when (a ≢ b) ∷ rows) (number (if not (eqb a b) then x else y))
-  row-ne a b later =
-      row (not (eqb a b)) (λ t. eqb-false a b (not-true _ t)) (λ t k. k (eqb-true a b (not-false _ t))) (λ t. later)
-
-  pub row-above : (a b : ℕ) → First otherwise rows (number y) → First otherwise (number x when (b < a) ∷ rows) (number (if not (leb a b) then x else y))
-  row-above a b later =
-      row (not (leb a b)) (λ t. leb-false a b (not-true _ t)) (λ t h. omega (arith, leb-true a b (not-false _ t))) (λ t. later)
-
-  -- A row that applies where a check fails, and one that applies where the facts that a check decides do not hold.
-  pub row-fails : (t : Bool) → First otherwise rows (number y) → First otherwise (number x when (t ≡ false) ∷ rows) (number (if not t then x else y))
-  row-fails t later = row (not t) (not-true t) (λ u e. false≢true (sym e ∙ not-false t u)) (λ u. later)
-
-  pub row-unless : {facts : Type 0} (t : Bool) → facts ↔ (t ≡ true) → (t ≡ true → First otherwise rows (number y))
-      → First otherwise (number x when (¬ facts) ∷ rows) (number (if not t then x else y))
-  row-unless t decided later =
-      row (not t) (λ u k. false≢true (sym (not-true t u) ∙ decided .0 k)) (λ u k. k (decided .1 (not-false t u))) (λ u. later (not-false t u))
-
-  -- A row that two tests decide, one after the other.
-  pub row-either : {f g : Type 0} (t u : Bool) → (t ≡ true → f) → (t ≡ false → ¬ f) → (u ≡ true → g) → (u ≡ false → ¬ g) → First otherwise rows (number y)
-      → First otherwise (number x when (f ⊎ g) ∷ rows) (number (if t then x else if u then x else y))
-  row-either true u f not-f g not-g later = applies (inl (f refl))
-  row-either false true f not-f g not-g later = applies (inr (g refl))
-  row-either false false f not-f g not-g later = passes (⊎-elim (not-f refl) (not-g refl)) later
-
-  pub row-lt-lt : (a b c d : ℕ) → First otherwise rows (number y)
-      → First otherwise (number x when ((a < b) ⊎ (c < d)) ∷ rows) (number (if ltb a b then x else if ltb c d then x else y))
-  row-lt-lt a b c d later =
-      row-either (ltb a b) (ltb c d) (ltb-true a b) (λ t h. omega (arith, ltb-false a b t)) (ltb-true c d) (λ t h. omega (arith, ltb-false c d t)) later
 
 -- What holds of each way, when the test says that it is taken, holds of the choice.
 pub choice : {A : Type 0} (P : A → Type 1) (t : Bool) {x y : A} → (t ≡ true → P x) → (t ≡ false → P y) → P (if t then x else y)
 choice P true f g = f refl
 choice P false f g = g refl
 
+-- A check that finds a fact, or that it is not so.
+abbrev pub finds : {fact : Type 0} (t : Bool) → (t ≡ true → fact) → (t ≡ false → ¬ fact) → Test
+finds {fact} t found missed =
+    record { holds = t; fact = fact; other = t ≡ false; is-fact = found; is-other = λ e. e; never-both = λ f e. missed e f }
+
+-- ---- a table and its rows
+module _ {A : Type 0} (number : A → ℕ) where
+  -- A table's rows, each with its answer's number and its test's fact.
+  abbrev pub numbered : List (tables.Row A) → List Row
+  numbered [] = []
+  numbered (tables._when_ answer test ∷ rows) = number answer when test .fact ∷ numbered rows
+
+  module _ {otherwise : ℕ → Type 0} where
+    -- A row and the test that decides it.
+    pub row : {rows : List Row} {x y : A} (t : Test) → (t .other → First otherwise rows (number y))
+        → First otherwise (number x when t .fact ∷ rows) (number (if t .holds then x else y))
+    row {rows} {x} {y} t later =
+        choice (λ (given : A). First otherwise (number x when t .fact ∷ rows) (number given)) (t .holds) (λ e. applies (t .is-fact e))
+        (λ e. passes (λ f. t .never-both f (t .is-other e)) (later (t .is-other e)))
+
+    -- What a table decides has the number of the first row that applies; behind it stand the rows that decide its rest.
+    pub first-then : (rows : List (tables.Row A)) (rest : A) (more : List Row) → (Passed rows → First otherwise more (number rest))
+        → First otherwise (numbered rows ++ more) (number (decide rows rest))
+    first-then [] rest more later = later tt
+    first-then (tables._when_ answer test ∷ rows) rest more later =
+        row test (λ other. first-then rows rest more (λ facts. later (other, facts)))
+
+    -- The same of a table with nothing behind it.
+    pub first : (rows : List (tables.Row A)) (rest : A) → otherwise (number rest) → First otherwise (numbered rows) (number (decide rows rest))
+    first [] rest o = none-applies o
+    first (tables._when_ answer test ∷ rows) rest o = row test (λ other. first rows rest o)
+
 -- ---- rows together
+-- The rows whose first has its fact told in other words.
+abbrev pub headed : Type 0 → List Row → List Row
+headed fact [] = []
+headed fact (number when told ∷ rows) = number when fact ∷ rows
+
+-- The fact of the first row.
+abbrev pub FirstFact : List Row → Type 0
+FirstFact [] = ⊥
+FirstFact (number when fact ∷ rows) = fact
+
+-- A fact told in other words that say the same gives the same number.
+pub retold : {otherwise : ℕ → Type 0} {fact : Type 0} (rows : List Row) {given : ℕ} → FirstFact rows ↔ fact → First otherwise rows given
+    → First otherwise (headed fact rows) given
+retold [] same (none-applies o) = none-applies o
+retold (number when told ∷ rows) same (applies f) = applies (same .0 f)
+retold (number when told ∷ rows) same (passes n l) = passes (λ f. n (same .1 f)) l
+
+-- A check that decides some facts fails exactly when they do not hold.
+pub fails-exactly-when : {facts : Type 0} (t : Bool) → facts ↔ (t ≡ true) → (t ≡ false) ↔ (¬ facts)
+fails-exactly-when true decides = (λ e f. false≢true (sym e), λ n. absurd (n (decides .1 refl)))
+fails-exactly-when false decides = (λ e f. false≢true (decides .0 f), λ n. refl)
+
+-- Rows that apply only in some case, where it holds and where it fails.
 module _ {otherwise : ℕ → Type 0} {case : Type 0} where
   pub case-holds : {rows : List Row} {given : ℕ} → case → First otherwise rows given → First otherwise (in-case case rows) given
   case-holds c (applies {fact = fact} f) = applies {fact = case × fact} (c, f)
@@ -73,22 +82,6 @@ module _ {otherwise : ℕ → Type 0} {case : Type 0} where
   pub case-fails : (rows : List Row) {given : ℕ} → ¬ case → otherwise given → First otherwise (in-case case rows) given
   case-fails [] c o = none-applies o
   case-fails (number when fact ∷ rows) c o = passes {fact = case × fact} (λ p. c (p .0)) (case-fails rows c o)
-
--- Rows before others: one of them applies, or none does and the others decide.
-pub stays : (more : List Row) {rows : List Row} {given : ℕ} → given ≢ 0 → FirstOf rows given → FirstOf (rows ++ more) given
-stays more k (applies f) = applies f
-stays more k (passes n l) = passes n (stays more k l)
-stays more k (none-applies e) = absurd (k e)
-
--- Each row has a number.
-abbrev pub Named : List Row → Type 0
-Named [] = Unit {0}
-Named (number when fact ∷ rows) = (number ≢ 0) × Named rows
-
-pub goes-on : {rows more : List Row} {first given : ℕ} → Named rows → FirstOf rows first → first ≡ 0 → FirstOf more given → FirstOf (rows ++ more) given
-goes-on k (applies f) e later = absurd (k .0 e)
-goes-on k (passes n l) e later = passes n (goes-on (k .1) l e later)
-goes-on k (none-applies o) e later = later
 
 -- The numbers of some rows are all in a list.
 abbrev pub AllIn : List ℕ → List Row → Type 0

@@ -10,12 +10,11 @@ use lib.Dec.{ltb}
 use lib.ListN.{length, getD, length-set}
 use lib.Seq.{getD-set-same, getD-set-other}
 use Rattle.meaning.specs.Choice.{either}
-use Rattle.turn.specs.Turn.{Groups}
-use Rattle.turn.specs.declared.turn.Change.{Change}
-use Rattle.turn.specs.declared.turn.Change.the-variants.{Keep, Put}
-use Rattle.node.specs.Groups.{applied}
-use Rattle.node.proofs.Laws.{silence-keeps-the-table}
-use Rattle.promises.specs.Demand2.{GroupTable}
+use Rattle.board.specs.Groups.{Groups, applied}
+use Rattle.board.specs.declared.groups.Change.{Change}
+use Rattle.board.specs.declared.groups.Change.the-variants.{Keep, Put}
+use Rattle.board.proofs.GroupTable.{silence-keeps-the-table}
+use Rattle.promises.specs.Demand2.Events.{GroupTable}
 
 module _ (g : Groups) (index low middle high : ℕ) where
   put : length g ≡ 16 → index ≤ 15 → getD (applied g (Put index low middle high)) index [] ≡ low ∷ middle ∷ high ∷ []

@@ -3,7 +3,6 @@ pub mod Events
 pub mod Effects
 pub mod OneIp
 pub mod Answers
-pub mod Facts
 pub mod Held
 pub mod First
 pub mod Rows

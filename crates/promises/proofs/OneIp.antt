@@ -15,9 +15,8 @@ use Rattle.board.specs.declared.favourites.Favourites.{Favourites}
 use Rattle.board.specs.declared.favourites.Ip.{Ip}
 use Rattle.board.specs.declared.favourites.Ip.the-variants.{Unset}
 use Rattle.board.specs.declared.favourites.Slot.{Slot}
-use Rattle.board.proofs.Within.{both}
-use Rattle.motors.proofs.Cases.{by-test}
-use Rattle.promises.specs.Demand2.{OneIp}
+use Rattle.meaning.specs.Cases.{both, by-test}
+use Rattle.promises.specs.Demand2.Effects.{OneIp}
 
 from-1 : (i : IpIndex) → isNumber i ≡ true → 1 ≤ i .0
 from-1 i e = leb-true 1 (i .0) (both (leb 1 (i .0)) (leb (i .0) 16) e .0)

@@ -1,5 +1,6 @@
 -- The contracts in the source are the meanings that the demands speak of: no entry point is proved of anything else.
--- `Pre` and `Post` of a function's `Reads` are what the source requires and ensures; `a .0`, `a .1 .0`, `a .1 .1 .0` its arguments, in their order.
+-- `Pre` and `Post` of a function's `Reads` are what the source requires and ensures; `a .0`, `a .1 .0`, `a .1 .1 .0`
+-- its arguments, in their order.
 -- Assumes nothing.
 use Prim.Native.Nat.{ℕ}
 use mathlib.Core.Path.{_≡_}
@@ -45,13 +46,13 @@ use Rattle.board.proofs.cleared.Reads as cleared
 use Rattle.board.proofs.power_up.Kinds as power-up-kinds
 use Rattle.board.proofs.power_up.Reads as power-up
 use Rattle.node.specs.Frames.{turnOf}
-use Rattle.node.specs.Groups.{noGroups, applied}
+use Rattle.board.specs.Groups.{noGroups, applied}
 use Rattle.node.proofs.on_frame.Kinds as on-frame-kinds
 use Rattle.node.proofs.on_frame.Reads as on-frame
-use Rattle.node.proofs.apply.Kinds as apply-kinds
-use Rattle.node.proofs.apply.Reads as apply
-use Rattle.node.proofs.no_groups.Kinds as no-groups-kinds
-use Rattle.node.proofs.no_groups.Reads as no-groups
+use Rattle.board.proofs.apply.Kinds as apply-kinds
+use Rattle.board.proofs.apply.Reads as apply
+use Rattle.board.proofs.no_groups.Kinds as no-groups-kinds
+use Rattle.board.proofs.no_groups.Reads as no-groups
 use Rattle.motors.specs.Filing.{filedOf, struckOf}
 use Rattle.motors.proofs.file.Kinds as file-kinds
 use Rattle.motors.proofs.file.Reads as file
@@ -69,11 +70,14 @@ use Rattle.register.proofs.read_form as slice-read-form
 use Rattle.register.proofs.write_form as slice-write-form
 
 -- Of any arguments, with nothing required of them, each result that the contract allows is the meaning.
-abbrev pub Says : {n : ℕ} (ps : List (PK n)) (r : RK n) → In n ps → Out n ps r → ((κs : Lfts n) → Dens κs ps → resT r κs .Denot) → Type 0
+abbrev pub Says : {n : ℕ} (ps : List (PK n)) (r : RK n) → In n ps → Out n ps r
+    → ((κs : Lfts n) → Dens κs ps → resT r κs .Denot) → Type 0
 Says {n} ps r pre post meaning =
-    (κs : Lfts n) (a : Dens κs ps) → pre κs a × ((x : resT r κs .Denot) (s : AtExit (endedOf n ps r) κs) → post κs a x s → x ≡ meaning κs a)
+    (κs : Lfts n) (a : Dens κs ps)
+    → pre κs a × ((x : resT r κs .Denot) (s : AtExit (endedOf n ps r) κs) → post κs a x s → x ≡ meaning κs a)
 
--- The same for a function that is lent memory: what stands there at its end, `left`, is the meaning too, `after`, byte for byte.
+-- The same for a function that is lent memory: what stands there at its end, `left`, is the meaning too, `after`, byte
+-- for byte.
 abbrev pub SaysLent :
     {n : ℕ} (ps : List (PK n)) (r : RK n)
     → In n ps → Out n ps r → ((κs : Lfts n) → Dens κs ps → resT r κs .Denot)
@@ -116,7 +120,8 @@ pub record Contracts : Type 0 where
       (λ κs s. now (s .1 .1 .0))
       (λ κs a. formWritten (a .0) (a .1 .0) (now (a .1 .1 .0)))
 
--- The same for the lent slice of motors, whose functions are proved by hand: of their contracts, in the program logic that they are proved in.
+-- The same for the lent slice of motors, whose functions are proved by hand: of their contracts, in the program logic
+-- that they are proved in.
 abbrev pub SaysHeld :
     {M : Type 1} (𝓤 : URA M) {E : Type 0} (T : Ended) (c : Clauses 𝓤 T)
     → ((κs : Lfts (T .signature .lifetimes)) → Args (T .signature) κs → Res (T .signature) κs)
@@ -151,7 +156,9 @@ pub record SliceContracts {M : Type 1} (𝓤 : URA M) (H : Heap 𝓤) (A : Atoms
       (λ κs s. now (s .1 .1 .0))
       (λ κs a. formWritten (now (a .0)) (a .1 .0) (now (a .1 .1 .0)))
 
--- The four calls over the lent slice, whatever the logic is built on: a frame filed, a motor struck out, the stored form read and written.
+-- The four calls over the lent slice, whatever the logic is built on: a frame filed, a motor struck out, the stored
+-- form read and written.
 pub record LentSliceContracts : Type 2 where
   pub register :
-      {M : Type 1} (𝓤 : URA M) (H : Heap 𝓤) (A : Atoms 𝓤) (mem : Memory → SProp 𝓤) (run : Routine → Fun 𝓤) → SliceContracts 𝓤 H A mem run
+      {M : Type 1} (𝓤 : URA M) (H : Heap 𝓤) (A : Atoms 𝓤) (mem : Memory → SProp 𝓤) (run : Routine → Fun 𝓤)
+      → SliceContracts 𝓤 H A mem run

@@ -1,6 +1,9 @@
--- Demand 1: whatever arrives, every entry point answers, ends, and does its work or gives the numbered refusal; a refusal changes no state, record
--- or lent byte, save that a refused bundle is dropped and the reader goes on. That each answers and ends is what its contract says, with no `requires`.
--- Which number is given, and when, is said by `Rows`; what a number that is not 0 leaves is said here, a line for each entry point.
+-- Demand 1: whatever arrives, every entry point answers, ends, and does its work or gives the numbered refusal; a
+-- refusal changes no state, record
+-- or lent byte, save that a refused bundle is dropped and the reader goes on. That each answers and ends is what its
+-- contract says, with no `requires`.
+-- Which number is given, and when, is said by `Rows`; what a number that is not 0 leaves is said here, a line for each
+-- entry point.
 -- Assumes nothing.
 use Prim.Native.Nat.{ℕ, _-_, _<_}
 use mathlib.Core.Path.{_≡_}
@@ -18,15 +21,23 @@ use Rattle.board.specs.Node.{sound}
 use Rattle.board.specs.Events.{setUp, afterPulse, afterBlocked, afterCleared, afterPowerUp}
 use Rattle.board.specs.declared.settings.Settings.{Settings}
 use Rattle.board.specs.declared.whole.Node.{Node}
-use Rattle.turn.specs.Turn.{Groups}
+use Rattle.board.specs.Groups.{Groups}
 use Rattle.node.specs.Frames.{turnOf}
-use Rattle.node.proofs.Passing.{IsOneOf}
-use Rattle.node.proofs.Laws.{Untouched}
+use Rattle.meaning.specs.Membership.{IsOneOf}
+use Rattle.node.specs.Replies.{Untouched}
 use Rattle.motors.specs.Filing.{filedOf, struckOf}
 use Rattle.motors.specs.declared.motor.Motor.{Motor}
 use Rattle.form.specs.Reading.{readOf}
 use Rattle.form.specs.Writing.{writtenOf, bufferAfter as formWritten}
-use Rattle.promises.specs.Numbers.{writeNumber, lineNumber, eventNumber, turnNumber, registerNumber, formNumber, noFrame}
+use Rattle.promises.specs.Numbers.{
+  writeNumber,
+  lineNumber,
+  eventNumber,
+  turnNumber,
+  registerNumber,
+  formNumber,
+  noFrame,
+}
 use Rattle.promises.specs.Rows.{Rows}
 
 pub record Demand1 : Type 1 where
@@ -34,39 +45,52 @@ pub record Demand1 : Type 1 where
   pub rows : Rows
   -- the frame writer: no byte of the buffer
   pub write :
-      (buffer : List ℕ) (place : ℕ) (h : Header) (d : List ℕ) → writeNumber (writingOf (length buffer) place h d) ≢ 0 → bufferWritten buffer place h d ≡ buffer
+      (buffer : List ℕ) (place : ℕ) (h : Header) (d : List ℕ) → writeNumber (writingOf (length buffer) place h d) ≢ 0
+      → bufferWritten buffer place h d ≡ buffer
   -- the line reader, rows 9, 7 and 8: the very reader, and nothing read
   pub step-9 : (r : Reader) (byte silence : ℕ) → isSound r ≡ false → stepOf r byte silence ≡ broken r
   pub close-9 : (r : Reader) → isSound r ≡ false → closeOf r ≡ broken r
-  pub run-9 : (r : Reader) (bytes silences : List ℕ) (place : ℕ) → isSound r ≡ false → ranOf r bytes silences place ≡ refusing r Refusal.BrokenReader place
+  pub run-9 : (r : Reader) (bytes silences : List ℕ) (place : ℕ) → isSound r ≡ false
+      → ranOf r bytes silences place ≡ refusing r Refusal.BrokenReader place
   pub run-7 :
       (r : Reader) (bytes silences : List ℕ) (place : ℕ) → isSound r ≡ true → length bytes ≢ length silences
       → ranOf r bytes silences place ≡ refusing r Refusal.UnequalRuns place
   pub run-8 :
-      (r : Reader) (bytes silences : List ℕ) (place : ℕ) → isSound r ≡ true → length bytes ≡ length silences → length bytes < place
+      (r : Reader) (bytes silences : List ℕ) (place : ℕ) → isSound r ≡ true → length bytes ≡ length silences
+      → length bytes < place
       → ranOf r bytes silences place ≡ refusing r Refusal.PlacePastEnd place
-  -- rows 1 to 6: the bundle is dropped, none of it is handed out, and the reader goes on with the byte that ended it; at the close it is fresh
+  -- rows 1 to 6: the bundle is dropped, none of it is handed out, and the reader goes on with the byte that ended it;
+  -- at the close it is fresh
   pub step-drops :
       (r : Reader) (byte silence : ℕ) → IsOneOf (lineNumber (stepOf r byte silence .answer)) noFrame
       → (stepOf r byte silence .reader ≡ begun byte) × (stepOf r byte silence .bundle ≡ noBytes)
   pub close-drops :
-      (r : Reader) → IsOneOf (lineNumber (closeOf r .answer)) noFrame → (closeOf r .reader ≡ fresh) × (closeOf r .bundle ≡ noBytes)
+      (r : Reader) → IsOneOf (lineNumber (closeOf r .answer)) noFrame
+      → (closeOf r .reader ≡ fresh) × (closeOf r .bundle ≡ noBytes)
   pub run-drops :
-      (r : Reader) (bytes silences : List ℕ) (place : ℕ) → IsOneOf (lineNumber (ranOf r bytes silences place .stepped .answer)) noFrame
+      (r : Reader) (bytes silences : List ℕ) (place : ℕ)
+      → IsOneOf (lineNumber (ranOf r bytes silences place .stepped .answer)) noFrame
       → (ranOf r bytes silences place .stepped .reader ≡ begun (getD bytes (ranOf r bytes silences place .place - 1) 0))
       × (ranOf r bytes silences place .stepped .bundle ≡ noBytes)
-  -- the board: no node that any later call accepts is made, or the very node is kept, the group table too, and there is no reply
+  -- the board: no node that any later call accepts is made, or the very node is kept, the group table too, and there is
+  -- no reply
   pub set-up : (s : Settings) → eventNumber (setUp s .verdict) ≢ 0 → sound (setUp s .node) ≡ false
   pub at-pulse : (n : Node) (p : Pulse) → eventNumber (afterPulse n p .verdict) ≢ 0 → afterPulse n p .node ≡ n
-  pub blocked : (n : Node) (cause : ℕ) → eventNumber (afterBlocked n cause .verdict) ≢ 0 → afterBlocked n cause .node ≡ n
+  pub blocked : (n : Node) (cause : ℕ) → eventNumber (afterBlocked n cause .verdict) ≢ 0
+      → afterBlocked n cause .node ≡ n
   pub cleared : (n : Node) → eventNumber (afterCleared n .verdict) ≢ 0 → afterCleared n .node ≡ n
   pub power-up : (n : Node) → eventNumber (afterPowerUp n .verdict) ≢ 0 → afterPowerUp n .node ≡ n
-  pub on-frame : (n : Node) (g : Groups) (b : List ℕ) → turnNumber (turnOf n g b .answer) ≢ 0 → Untouched n (turnOf n g b)
+  pub on-frame : (n : Node) (g : Groups) (b : List ℕ) → turnNumber (turnOf n g b .answer) ≢ 0
+      → Untouched n (turnOf n g b)
   -- the register: every place; its stored form: every place, and every byte of the buffer
   pub file :
-      (run : List Motor) (count line : ℕ) (b : List ℕ) → registerNumber (filedOf run count line b .answer) ≢ 0 → filedOf run count line b .motors ≡ run
+      (run : List Motor) (count line : ℕ) (b : List ℕ) → registerNumber (filedOf run count line b .answer) ≢ 0
+      → filedOf run count line b .motors ≡ run
   pub strike-out :
-      (run : List Motor) (count line node : ℕ) → registerNumber (struckOf run count line node .answer) ≢ 0 → struckOf run count line node .motors ≡ run
-  pub read-form : (run : List Motor) (b : List ℕ) → registerNumber (readOf run b .answer) ≢ 0 → readOf run b .motors ≡ run
+      (run : List Motor) (count line node : ℕ) → registerNumber (struckOf run count line node .answer) ≢ 0
+      → struckOf run count line node .motors ≡ run
+  pub read-form : (run : List Motor) (b : List ℕ) → registerNumber (readOf run b .answer) ≢ 0
+      → readOf run b .motors ≡ run
   pub write-form :
-      (run : List Motor) (count : ℕ) (buffer : List ℕ) → formNumber (writtenOf run count (length buffer)) ≢ 0 → formWritten run count buffer ≡ buffer
+      (run : List Motor) (count : ℕ) (buffer : List ℕ) → formNumber (writtenOf run count (length buffer)) ≢ 0
+      → formWritten run count buffer ≡ buffer

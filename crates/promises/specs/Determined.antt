@@ -17,7 +17,6 @@ use Rattle.frame.proofs.Determined as Frame
 use Rattle.line.proofs.Determined as Line
 use Rattle.travel.proofs.Determined as Travel
 use Rattle.board.proofs.Determined as Board
-use Rattle.turn.proofs.Determined as Turn
 use Rattle.messages.proofs.Determined as Messages
 use Rattle.node.proofs.Determined as Node
 use Rattle.motors.proofs.Determined as Motors
@@ -31,18 +30,20 @@ pub record Determined : Type 0 where
   pub line : Line.Determined
   pub travel : Travel.Determined
   pub board : Board.Determined
-  pub turn : Turn.Determined
   pub messages : Messages.Determined
   pub node : Node.Determined
   pub motors : Motors.Determined
   pub form : Form.Determined
 
--- The sentence tells contracts apart. Of `Refusal::number`: where the contract fixes the answer it holds, where it only bounds the answer it does not.
+-- The sentence tells contracts apart. Of `Refusal::number`: where the contract fixes the answer it holds, where it only
+-- bounds the answer it does not.
 pub record Sense : Type 0 where
   pub a-fixed-answer-is-determined : Once number-kinds.ps number-kinds.r (λ κs a x s. x ≡ numberOf (a .0))
   pub a-bounded-answer-is-not : ¬ Once number-kinds.ps number-kinds.r (λ κs a x s. x ≤ numberOf (a .0))
 
--- The lent slice of motors is proved by hand: the same of its contracts, in the program logic that they are proved in, whatever it is built on.
+-- The lent slice of motors is proved by hand: the same of its contracts, in the program logic that they are proved in,
+-- whatever it is built on.
 pub record LentSliceDetermined : Type 2 where
   pub register :
-      {M : Type 1} (𝓤 : URA M) (H : Heap 𝓤) (A : Atoms 𝓤) (mem : Memory → SProp 𝓤) (run : Routine → Fun 𝓤) → Register.Determined 𝓤 H A mem run
+      {M : Type 1} (𝓤 : URA M) (H : Heap 𝓤) (A : Atoms 𝓤) (mem : Memory → SProp 𝓤) (run : Routine → Fun 𝓤)
+      → Register.Determined 𝓤 H A mem run

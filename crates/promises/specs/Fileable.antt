@@ -1,4 +1,5 @@
--- When the register files a frame, and when it strikes a motor out: the facts that document 01's rows 1 to 6 and 19 to 25 ask.
+-- When the register files a frame, and when it strikes a motor out: the facts that document 01's rows 1 to 6 and 19 to
+-- 25 ask.
 -- Assumes nothing.
 use Prim.Native.Nat.{ℕ, _≤_, _<_}
 use mathlib.Core.Path.{_≡_}
@@ -7,11 +8,10 @@ use mathlib.Core.Bool.{true}
 use mathlib.Core.List.{List}
 use Rattle.frame.specs.Layout.{message, source, destination, dataOf, dataCount}
 use Rattle.frame.specs.Reading.{IsFrame}
-use Rattle.motors.specs.Register.{found}
+use Rattle.motors.specs.Register.{found, Sound}
 use Rattle.motors.specs.Report.{percentIn, ipIn}
 use Rattle.motors.specs.Filing.{isSome}
 use Rattle.motors.specs.declared.motor.Motor.{Motor}
-use Rattle.motors.proofs.InOrder.{Sound}
 
 -- A 0Dh with a reading in it (row 23).
 pub record Reports (b : List ℕ) : Type 0 where

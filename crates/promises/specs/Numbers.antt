@@ -1,4 +1,5 @@
--- Document 01's number of every answer: that of its refusal (`numberOf`, the paper's table), 0 where nothing is refused.
+-- Document 01's number of every answer: that of its refusal (`numberOf`, the paper's table), 0 where nothing is
+-- refused.
 -- Assumes nothing.
 use Prim.Native.Nat.{ℕ}
 use mathlib.Core.List.{List, [], _∷_}
@@ -9,7 +10,7 @@ use Rattle.frame.specs.declared.reading.Reading.{Reading}
 use Rattle.frame.specs.declared.writing.Writing.{Writing}
 use Rattle.line.specs.declared.reader.Answer as line
 use Rattle.board.specs.declared.events.Verdict.{Verdict}
-use Rattle.turn.specs.declared.turn.Answer as turn
+use Rattle.node.specs.declared.turn.Answer as turn
 use Rattle.motors.specs.declared.answer.Answer as motors
 use Rattle.form.specs.declared.writing.Written.{Written}
 

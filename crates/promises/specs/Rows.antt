@@ -17,20 +17,28 @@ use Rattle.travel.specs.declared.Pulse.{Pulse}
 use Rattle.board.specs.Events.{setUp, afterPulse, afterBlocked, afterCleared, afterPowerUp}
 use Rattle.board.specs.declared.settings.Settings.{Settings}
 use Rattle.board.specs.declared.whole.Node.{Node}
-use Rattle.board.proofs.Ranges.{SettingsInRange, BoardInRange}
-use Rattle.turn.specs.Turn.{Groups}
+use Rattle.board.specs.Ranges.{SettingsInRange, BoardInRange}
+use Rattle.board.specs.Groups.{Groups}
 use Rattle.node.specs.Frames.{turnOf}
-use Rattle.node.proofs.Passing.{IsOneOf}
+use Rattle.meaning.specs.Membership.{IsOneOf}
 use Rattle.motors.specs.Motor.{zeros}
-use Rattle.motors.specs.Register.{found}
+use Rattle.motors.specs.Register.{found, Sound}
 use Rattle.motors.specs.Report.{percentIn, ipIn}
 use Rattle.motors.specs.Filing.{filedOf, struckOf}
 use Rattle.motors.specs.declared.motor.Motor.{Motor}
-use Rattle.motors.proofs.InOrder.{Sound}
 use Rattle.form.specs.Layout.{firstBody, contentsRight, bodiesRight}
 use Rattle.form.specs.Reading.{countIn, contentsIn, bodiesIn, readOf}
 use Rattle.form.specs.Writing.{writtenOf}
-use Rattle.promises.specs.Numbers.{readNumber, writeNumber, lineNumber, eventNumber, turnNumber, registerNumber, formNumber, noFrame}
+use Rattle.promises.specs.Numbers.{
+  readNumber,
+  writeNumber,
+  lineNumber,
+  eventNumber,
+  turnNumber,
+  registerNumber,
+  formNumber,
+  noFrame,
+}
 
 -- A row: its number, and when it applies.
 pub data Row : Type 1 where
@@ -40,7 +48,8 @@ infixr 68 _when_
 -- The number given is that of the first row that applies; where none does, `otherwise` says what it is.
 pub data First (otherwise : ℕ → Type 0) : List Row → ℕ → Type 1 where
   applies : {number : ℕ} {fact : Type 0} {rows : List Row} → fact → First otherwise (number when fact ∷ rows) number
-  passes : {number given : ℕ} {fact : Type 0} {rows : List Row} → ¬ fact → First otherwise rows given → First otherwise (number when fact ∷ rows) given
+  passes : {number given : ℕ} {fact : Type 0} {rows : List Row} → ¬ fact → First otherwise rows given
+      → First otherwise (number when fact ∷ rows) given
   none-applies : {given : ℕ} → otherwise given → First otherwise [] given
 
 -- The usual case: 0 where no row applies.
@@ -113,7 +122,8 @@ pub record Rows : Type 1 where
       → FirstOf (writerRows (length buffer) place h d) (writeNumber (writingOf (length buffer) place h d))
   -- the line reader
   pub step :
-      (r : Reader) (byte silence : ℕ) → FirstOf (9 when (brokenReader r) ∷ in-case (30 ≤ silence) (openRows r)) (lineNumber (stepOf r byte silence .answer))
+      (r : Reader) (byte silence : ℕ)
+      → FirstOf (9 when (brokenReader r) ∷ in-case (30 ≤ silence) (openRows r)) (lineNumber (stepOf r byte silence .answer))
   pub close : (r : Reader) → FirstOf (9 when (brokenReader r) ∷ openRows r) (lineNumber (closeOf r .answer))
   -- a run, of a reader that keeps 31 bytes as all of the code do; then as its single steps: 0, or one of rows 1 to 6
   pub run :
@@ -123,15 +133,18 @@ pub record Rows : Type 1 where
   -- the board
   pub set-up : (s : Settings) → FirstOf (32 when (¬ SettingsInRange s) ∷ []) (eventNumber (setUp s .verdict))
   pub at-pulse :
-      (n : Node) (p : Pulse) → FirstOf (33 when (¬ BoardInRange n) ∷ 30 when (n .settings .travel .0 < p .0) ∷ []) (eventNumber (afterPulse n p .verdict))
+      (n : Node) (p : Pulse)
+      → FirstOf (33 when (¬ BoardInRange n) ∷ 30 when (n .settings .travel .0 < p .0) ∷ []) (eventNumber (afterPulse n p .verdict))
   pub blocked :
       (n : Node) (cause : ℕ)
       → FirstOf (33 when (¬ BoardInRange n) ∷ 31 when ((cause ≢ 0x20) × ((cause ≢ 0x21) × (cause ≢ 0x22))) ∷ []) (eventNumber (afterBlocked n cause .verdict))
   pub cleared : (n : Node) → FirstOf (33 when (¬ BoardInRange n) ∷ []) (eventNumber (afterCleared n .verdict))
   pub power-up : (n : Node) → FirstOf (33 when (¬ BoardInRange n) ∷ []) (eventNumber (afterPowerUp n .verdict))
-  pub on-frame : (n : Node) (g : Groups) (b : List ℕ) → FirstOf (33 when (¬ BoardInRange n) ∷ bundleRows b) (turnNumber (turnOf n g b .answer))
+  pub on-frame : (n : Node) (g : Groups) (b : List ℕ)
+      → FirstOf (33 when (¬ BoardInRange n) ∷ bundleRows b) (turnNumber (turnOf n g b .answer))
   -- the register and its stored form
-  pub file : (run : List Motor) (count line : ℕ) (b : List ℕ) → FirstOf (fileRows run count line b) (registerNumber (filedOf run count line b .answer))
+  pub file : (run : List Motor) (count line : ℕ) (b : List ℕ)
+      → FirstOf (fileRows run count line b) (registerNumber (filedOf run count line b .answer))
   pub strike-out :
       (run : List Motor) (count line node : ℕ)
       → FirstOf (19 when (¬ Sound run count) ∷ 20 when (3 < line) ∷ 25 when (found run count line node ≡ none) ∷ []) (registerNumber (struckOf run count line node .answer))

@@ -1,0 +1,34 @@
+-- Demand 2, the stored form: what is written is read, and what is read is written.
+-- Assumes nothing.
+use Prim.Native.Nat.{ℕ, _≤_}
+use mathlib.Core.Path.{_≡_}
+use mathlib.Core.Bool.{true}
+use mathlib.Core.List.{List}
+use lib.ListN.{length, take}
+use Rattle.meaning.specs.Bytes.{Bytes}
+use Rattle.frame.specs.Writing.{over}
+use Rattle.motors.specs.{
+  Register.{held, soundOf},
+  declared.{motor.Motor.{Motor}, answer.Answer.the-variants.{Count}},
+}
+use Rattle.form.specs.{
+  Layout.{formLength},
+  Reading.{readOf},
+  Writing.{writtenOf, bufferAfter as formWritten},
+  declared.writing.Written.the-variants.{Bytes as Written},
+}
+use Rattle.form.specs.Layout.{TwoBytePulses}
+
+-- Of bytes below 256 and pulses of two bytes, as all of the code are.
+pub record StoredForm : Type 0 where
+  pub form-written-is-read :
+      (run : List Motor) (count : ℕ) → soundOf run count ≡ true → TwoBytePulses (held run count)
+      → (buffer : List ℕ) → formLength count ≤ length buffer → (other : List Motor) → length other ≡ 256
+      → readOf other (take (formLength count) (formWritten run count buffer))
+      ≡ record { motors = run; answer = Count count }
+  pub what-is-read-is-written :
+      (run : List Motor) (b : List ℕ) (n : ℕ) → readOf run b .answer ≡ Count n → Bytes b → (buffer : List ℕ)
+      → length b ≤ length buffer
+      → (writtenOf (readOf run b .motors) n (length buffer) ≡ Written (length b)) × (formWritten (readOf run b .motors) n buffer ≡ over b buffer)
+  pub what-is-read-is-sound : (run : List Motor) (b : List ℕ) (n : ℕ) → readOf run b .answer ≡ Count n
+      → soundOf (readOf run b .motors) n ≡ true
