@@ -27,7 +27,7 @@ const GATHERED: usize = 32768;
 // up.
 fn main() {
     let mut node = no_board();
-    let mut groups = node::no_groups();
+    let mut groups = board::no_groups();
     let mut motors = no_motors();
     let mut count: usize = 0;
     let mut reader = Reader::fresh();

@@ -1,6 +1,7 @@
 // The board's commands. A board that was never set up is not sound, and no call makes a sound one unsound.
 use crate::state::put_state;
 use board::After;
+use board::Change;
 use board::Node;
 use board::Settings;
 use board::Verdict;
@@ -12,12 +13,8 @@ use console::Values;
 use console::plainly;
 use console::put_said;
 use console::refused;
-use console::with_bytes;
 use frame::Address;
 use travel::Pulse;
-use turn::Answer;
-use turn::Change;
-use turn::Turn;
 
 // The board after a command, its change of the group table, whether that is fresh, and the answer.
 pub struct Shown {
@@ -128,30 +125,5 @@ fn told(verdict: Verdict) -> Said {
     match verdict {
         Verdict::Done => plainly(Row::Done),
         Verdict::Refused(refusal) => refused(refusal),
-    }
-}
-
-// `frame HEX`: what its turn leads to.
-pub fn after_turn(turn: Turn) -> Shown {
-    let node = turn.node;
-    let change = turn.change;
-    Shown {
-        node,
-        change,
-        fresh: false,
-        said: answered(turn),
-    }
-}
-
-fn answered(turn: Turn) -> Said {
-    let answer = turn.answer;
-    let reply = turn.reply;
-    match answer {
-        Answer::Silent => plainly(Row::Silent),
-        Answer::Replied => {
-            let bytes = reply.bytes;
-            with_bytes(Row::Reply, bytes, reply.count)
-        }
-        Answer::Refused(refusal) => refused(refusal),
     }
 }

@@ -3,7 +3,6 @@ mod commands;
 mod state;
 
 pub use commands::Shown;
-pub use commands::after_turn;
 pub use commands::at_board;
 pub use commands::no_board;
 pub use commands::no_node;

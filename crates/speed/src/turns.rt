@@ -4,17 +4,20 @@ use crate::slots::bundle;
 use board::Node;
 use board::Settings;
 use frame::Address;
+use node::Answer;
+use node::Reply;
 use std::num::wrapping_add_u64;
 use travel::Pulse;
-use turn::Answer;
 
-// A fresh board takes bundle after bundle: the sum of the replies' bytes counted and of the refusals' numbers.
+// A fresh board is powered up, as in C, and takes bundle after bundle: the sum of the replies' bytes counted, of one byte of each, and of the
+// refusals' numbers.
 #[no_mangle]
 pub extern "C" fn speed_board(slots: &[u8], id: u32, kind: u8, travel: u16) -> u64 {
     let id = Address(id);
     let travel = Pulse(travel);
-    let mut node = Node::fresh(Settings { id, kind, travel });
-    let mut groups = node::no_groups();
+    let started = board::power_up(Node::fresh(Settings { id, kind, travel }));
+    let mut node = started.node;
+    let mut groups = board::no_groups();
     let mut total: u64 = 0;
     let mut at: usize = 0;
     while slots.len() - at >= SLOT {
@@ -22,19 +25,20 @@ pub extern "C" fn speed_board(slots: &[u8], id: u32, kind: u8, travel: u16) -> u
         let after = turn.node;
         node = after;
         let change = turn.change;
-        let table = node::apply(groups, change);
+        let table = board::apply(groups, change);
         groups = table;
         let answer = turn.answer;
-        total = wrapping_add_u64(total, worth(answer, turn.reply.count));
+        let reply = turn.reply;
+        total = wrapping_add_u64(total, worth(answer, reply));
         at += SLOT;
     }
     total
 }
 
-fn worth(answer: Answer, count: usize) -> u64 {
+fn worth(answer: Answer, reply: Reply) -> u64 {
     match answer {
         Answer::Silent => 0,
-        Answer::Replied => count as u64,
+        Answer::Replied => wrapping_add_u64(reply.count as u64, reply.bytes[10] as u64),
         Answer::Refused(refusal) => refusal.number() as u64,
     }
 }

@@ -4,7 +4,172 @@ use Rattle.register.proofs.Walk.EL
 use Rattle.register.proofs.Walk.T
 use Rattle.register.proofs.Walk.S
 use Rattle.register.proofs.Walk.S′
-use Rattle.register.proofs.Walk.{_≡_, refl, ℕ, _<_, _^_, List, [], _∷_, length, URA, fullShare, Ty, named, imm, w8, w64, tyInt, tyRef, Val, vint, SProp, ent, sep, emp, via, fst∗, id⊢, Lft, GName, Share, Fml, ftrue, fat, froom, fdies, flft, Memory, Routine, Heap, Env, Calls, Loops, WpFn, Tables, Atoms, sem, Fun, givenOf, tables, tablesOf, Given, Item, Sq, runs, atRet, ‵, raw, some, later, _⊛_, ⋆, _$_, _∵_, !, qed, by, move, keep, drop, use0, use1, use2, split, join, pick, fsplit, fjoin, suffices, frame, await, done, agg, whole, sub, look-in, look, init, forget, stop, hop, fld, from, load, addr, and-then, no-more, assigns, land, returns, enter, alloc1, alloc0, params1, pass1, pass0, free1, free0, FmC, fmOf, WpFn-mono, owns, Is, shows, pointee, uint-vals, uint-tells, uint-makes, u8, usize, RefT, sliceTy, sliceVal, MutSlice, ShrSlice, Room, slice-vals, mut-slice-tells, shr-slice-tells, shr-slice-copy, plain, owned, nothing, Vals, onEntry, Meets, tripleOf, Contract, Triple, calls-at, ensured, lasts, entered, cited, Stays, stay-slice, stay-none, stay-none-slice, walkOf, goes-slice, goes-none, goes-none-slice, ends-at, walked, walk-meets, yes, Motor, Answer, Arg, values, machine, ready, Callee, slice, ref-mut}
+use Rattle.register.proofs.Walk.{
+  _≡_,
+  refl,
+  ℕ,
+  _<_,
+  _^_,
+  List,
+  [],
+  _∷_,
+  length,
+  URA,
+  fullShare,
+  Ty,
+  named,
+  imm,
+  w8,
+  w64,
+  tyInt,
+  tyRef,
+  Val,
+  vint,
+  SProp,
+  ent,
+  sep,
+  emp,
+  via,
+  fst∗,
+  id⊢,
+  Lft,
+  GName,
+  Share,
+  Fml,
+  ftrue,
+  fat,
+  froom,
+  fdies,
+  flft,
+  Memory,
+  Routine,
+  Heap,
+  Env,
+  Calls,
+  Loops,
+  WpFn,
+  Tables,
+  Atoms,
+  sem,
+  Fun,
+  givenOf,
+  tables,
+  tablesOf,
+  Given,
+  Item,
+  Sq,
+  runs,
+  atRet,
+  ‵,
+  raw,
+  some,
+  later,
+  _⊛_,
+  ⋆,
+  _$_,
+  _∵_,
+  !,
+  qed,
+  by,
+  move,
+  keep,
+  drop,
+  use0,
+  use1,
+  use2,
+  split,
+  join,
+  pick,
+  fsplit,
+  fjoin,
+  suffices,
+  frame,
+  await,
+  done,
+  agg,
+  whole,
+  sub,
+  look-in,
+  look,
+  init,
+  forget,
+  stop,
+  hop,
+  fld,
+  from,
+  load,
+  addr,
+  and-then,
+  no-more,
+  assigns,
+  land,
+  returns,
+  enter,
+  alloc1,
+  alloc0,
+  params1,
+  pass1,
+  pass0,
+  free1,
+  free0,
+  FmC,
+  fmOf,
+  WpFn-mono,
+  owns,
+  Is,
+  shows,
+  pointee,
+  uint-vals,
+  uint-tells,
+  uint-makes,
+  u8,
+  usize,
+  RefT,
+  sliceTy,
+  sliceVal,
+  MutSlice,
+  ShrSlice,
+  Room,
+  slice-vals,
+  mut-slice-tells,
+  shr-slice-tells,
+  shr-slice-copy,
+  plain,
+  owned,
+  nothing,
+  Vals,
+  onEntry,
+  Meets,
+  tripleOf,
+  Contract,
+  Triple,
+  calls-at,
+  ensured,
+  lasts,
+  entered,
+  cited,
+  Stays,
+  stay-slice,
+  stay-none,
+  stay-none-slice,
+  walkOf,
+  goes-slice,
+  goes-none,
+  goes-none-slice,
+  ends-at,
+  walked,
+  walk-meets,
+  yes,
+  Motor,
+  Answer,
+  Arg,
+  values,
+  machine,
+  ready,
+  Callee,
+  slice,
+  ref-mut,
+}
 use types.Kit.{use3, feqL}
 use types.Tokens.{lft-new, lft-end}
 use denote.Plain.{uint-lawful}
@@ -76,7 +241,8 @@ module _ {M : Type 1} (𝓤 : URA M) (H : Heap 𝓤) (A : Atoms 𝓤) (W : Given
   abbrev Post : Val → SProp 𝓤
   Post = walkOf 𝓤 H A self.ended stayed (self.clauses 𝓤 H A mem run) .post bound
 
-  exits : (n : ℕ) (v : Val) (zs : List Motor) → Is u64 n (v ∷ []) → length zs ≡ length ys → ent 𝓤 (⋆ 𝓤 H A (‵ (Own zs) ∷ ‵ (flft κ q) ∷ ‵ (flft κ₂ q₂) ∷ ‵ OwnB ∷ [])) (Post v)
+  exits : (n : ℕ) (v : Val) (zs : List Motor) → Is u64 n (v ∷ []) → length zs ≡ length ys
+      → ent 𝓤 (⋆ 𝓤 H A (‵ (Own zs) ∷ ‵ (flft κ q) ∷ ‵ (flft κ₂ q₂) ∷ ‵ OwnB ∷ [])) (Post v)
   exits n v zs is l =
       qed W (‵ (Own zs) ∷ ‵ (flft κ q) ∷ ‵ (flft κ₂ q₂) ∷ ‵ OwnB ∷ []) ∵
       suffices ! _ (ends-at 𝓤 H A self.ended stayed (self.clauses 𝓤 H A mem run) W bound v n (zs, (tt, (tt, (tt, tt)))) (l, (tt, (tt, (tt, tt))))) $
@@ -93,7 +259,8 @@ module _ {M : Type 1} (𝓤 : URA M) (H : Heap 𝓤) (A : Atoms 𝓤) (W : Given
   abbrev OwnNew : ℕ → GName → Fml
   OwnNew ν δ = MutSlice (named 0) (ν ∷ []) T.the-row .own (x δ ys) (s ∷ [])
 
-  goes-to-file : (ν : ℕ) (δ : GName) → ent 𝓤 (sep 𝓤 (sep 𝓤 (A .lft (ν ∷ []) fullShare) (A .lft κ₂ q₂)) (sep 𝓤 (sem 𝓤 H A (OwnNew ν δ)) (sem 𝓤 H A OwnB))) (Filing 𝓤 H A mem run .pre (to-file ν δ))
+  goes-to-file : (ν : ℕ) (δ : GName)
+      → ent 𝓤 (sep 𝓤 (sep 𝓤 (A .lft (ν ∷ []) fullShare) (A .lft κ₂ q₂)) (sep 𝓤 (sem 𝓤 H A (OwnNew ν δ)) (sem 𝓤 H A OwnB))) (Filing 𝓤 H A mem run .pre (to-file ν δ))
   goes-to-file ν δ =
       qed W ((‵ (flft (ν ∷ []) fullShare) ⊛ ‵ (flft κ₂ q₂)) ∷ ‵ (OwnNew ν δ) ∷ ‵ OwnB ∷ []) ∵ split ! $ nothing ! $ nothing ! $ move ! (5 ∷ 0 ∷ []) $ fjoin ! $ owned ! u8 (Is u8) (uint-makes 𝓤 H A W w8) line _ (refl, g-line) $ fjoin ! $ owned ! usize (Is usize) (uint-makes 𝓤 H A W w64) count _ (refl, g-count) $ fjoin ! $
       move ! (4 ∷ 0 ∷ []) $ fjoin ! $ nothing ! $ move ! (4 ∷ 0 ∷ []) $ join ! $ move ! (3 ∷ 0 ∷ []) $ join ! $ join ! $ frame ! $ done !
@@ -115,7 +282,8 @@ module _ {M : Type 1} (𝓤 : URA M) (H : Heap 𝓤) (A : Atoms 𝓤) (W : Given
       abbrev Dies : List (Item 𝓤)
       Dies = ‵ (fdies (tyInt w64) l₀) ∷ ‵ (fdies slice l₁) ∷ ‵ (fdies (tyInt w64) l₂) ∷ ‵ (fdies (tyInt w8) l₃) ∷ ‵ (fdies bundle-ty l₄) ∷ ‵ (fdies S′.mir l₅) ∷ ‵ (fdies ref-mut l₆) ∷ ‵ (fdies (sliceTy ref-mut) l₇) ∷ []
 
-      -- what run owns; the token; each local but _0, local j at j + 1; _0 at 9; the token and the share of the bundle; and that each local dies, from 12
+      -- what run owns; the token; each local but _0, local j at j + 1; _0 at 9; the token and the share of the bundle; and that each local dies, from
+      -- 12
       abbrev Begun : List (Item 𝓤)
       Begun = ‵ (Own ys) ∷ ‵ (flft κ q) ∷ ‵ (fat fullShare slice l₁ 0 s) ∷ ‵ (fat fullShare (tyInt w64) l₂ 0 (vint w64 count)) ∷ ‵ (fat fullShare (tyInt w8) l₃ 0 (vint w8 line)) ∷ ‵ (fat fullShare bundle-ty l₄ 0 sb) ∷ ‵ (froom S′.mir l₅ 0) ∷ ‵ (froom ref-mut l₆ 0) ∷ ‵ (froom (sliceTy ref-mut) l₇ 0) ∷ ‵ (froom (tyInt w64) l₀ 0) ∷ ‵ (flft κ₂ q₂) ∷ ‵ OwnB ∷ Dies
 
@@ -158,7 +326,8 @@ module _ {M : Type 1} (𝓤 : URA M) (H : Heap 𝓤) (A : Atoms 𝓤) (W : Given
         keep ! (7 ∷ 2 ∷ 20 ∷ 18 ∷ 16 ∷ 14 ∷ 12 ∷ 10 ∷ 8 ∷ 22 ∷ 0 ∷ 3 ∷ 23 ∷ 21 ∷ 19 ∷ 17 ∷ 15 ∷ 13 ∷ 11 ∷ 9 ∷ []) $
         works l₀ l₁ l₂ l₃ l₄ l₅ l₆ l₇))))))))
 
-meets : {M : Type 1} (𝓤 : URA M) (H : Heap 𝓤) (A : Atoms 𝓤) (W : Given 𝓤 H A) (mem : Memory → SProp 𝓤) (run : Routine → Fun 𝓤) (𝓣 : Tables 𝓤 H) → Known 𝓤 H A mem run (𝓣 .C)
+meets : {M : Type 1} (𝓤 : URA M) (H : Heap 𝓤) (A : Atoms 𝓤) (W : Given 𝓤 H A) (mem : Memory → SProp 𝓤) (run : Routine → Fun 𝓤) (𝓣 : Tables 𝓤 H)
+    → Known 𝓤 H A mem run (𝓣 .C)
     → Meets 𝓤 H A self.signature (WpFn 𝓤 H (𝓣 .C) (𝓣 .Λ) code.function) (self.spec 𝓤 H A mem run)
 meets 𝓤 H A W mem run 𝓣 known =
     walk-meets 𝓤 H A self.ended stayed W (goes-slice 𝓤 H A W 2 0 tt (plain (λ _. T.the-row)), (goes-none 𝓤 H A W 2 (λ _. usize) yes (λ κs x f. refl), (goes-none 𝓤 H A W 2 (λ _. u8) yes (λ κs x f. refl), (goes-none-slice 𝓤 H A W 2 (1 ∷ []) tt (plain (λ _. u8)) yes, tt)))) (self.clauses 𝓤 H A mem run)
