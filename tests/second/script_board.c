@@ -1,0 +1,269 @@
+/* Lines about the board. */
+
+#include "script_board.h"
+
+#include <stdbool.h>
+#include <stddef.h>
+#include <stdint.h>
+
+#include "board.h"
+#include "messages.h"
+#include "script_frame.h"
+
+static uint32_t own_node_id(const struct script *script)
+{
+    return script->console.has_board ? script->console.board.node_id : 0x050403;
+}
+
+static uint32_t own_travel(const struct script *script)
+{
+    return script->console.has_board ? script->console.board.travel : 1000;
+}
+
+/* ------------------------------------------------------------------------
+ * Requests
+ * ------------------------------------------------------------------------ */
+
+/* Groups come from a small pool, so that requests meet them again. */
+static uint32_t any_group(struct script *script)
+{
+    return ONE_OF(script, 0x000000, 0x000001, 0x010203, 0x010204, 0x0A0B0C, 0x0C0B0A, 0xFFFF00, 0xFFFEFF,
+                  0xFFFFFF, own_node_id(script));
+}
+
+static uint32_t any_host(struct script *script)
+{
+    if (chance(script, 80))
+        return ONE_OF(script, 0xFFFF00, 0xFFFF01, 0xFFFFFE, 0x010000, script->console.board.holder);
+    return ONE_OF(script, 0x000000, 0x000001, 0xFFFFFF, own_node_id(script), below(script, 0x1000000));
+}
+
+static uint32_t other_destination(struct script *script)
+{
+    uint32_t own = own_node_id(script);
+    uint32_t reversed = (own & 0xFF) << 16 | (own & 0xFF00) | own >> 16;
+    return ONE_OF(script, own - 1, own + 1, own ^ 0x010000, reversed, BROADCAST_MARK - 1,
+                  below(script, 0x1000000));
+}
+
+/* Addressed properly most of the time. */
+static void address_request(struct script *script, struct header *header)
+{
+    uint32_t kind = below(script, 100);
+    header->destination = own_node_id(script);
+    header->source = any_host(script);
+    if (kind < 12)
+        header->destination = BROADCAST_MARK;
+    else if (kind < 18)
+        header->destination = other_destination(script);
+    else if (kind < 32) {
+        header->destination = GROUP_MARK;
+        header->source = chance(script, 60) ? script->console.board.groups[below(script, GROUPS)]
+                                            : any_group(script);
+    }
+}
+
+static uint16_t any_percent(struct script *script)
+{
+    const struct board *board = &script->console.board;
+    uint32_t present = script->console.has_board ? percent_of_pulse(board->position, board->travel) : 0;
+    uint32_t high_byte = ONE_OF(script, 0, 0, 0, 0, 0, 0, 0, 0, 0, 0, 0, 0, 0, 1, 255) << 8;
+    return (uint16_t)(high_byte
+                      | ONE_OF(script, 0, 1, 49, 50, 99, 100, 101, 102, 255, present, present,
+                               below(script, 103), below(script, 103), below(script, 101), below(script, 101),
+                               below(script, 101), below(script, 101)));
+}
+
+static uint8_t any_favourite_number(struct script *script)
+{
+    return (uint8_t)ONE_OF(script, 0, 1, 2, 3, 15, 16, 17, 255, between(script, 1, 16), between(script, 1, 16),
+                           between(script, 1, 16), between(script, 1, 16), between(script, 1, 16));
+}
+
+static void moveto_data(struct script *script, uint8_t *data)
+{
+    data[0] = (uint8_t)ONE_OF(script, 0, 0, 1, 1, 2, 2, 2, 4, 4, 4, 4, 4, 3, 5, below(script, 256));
+    uint16_t position = any_percent(script);
+    if (data[0] == MOVE_TO_FAVOURITE)
+        position = (uint16_t)ONE_OF(script, 0, 1, 15, 16, 17, 256, below(script, 16), below(script, 16),
+                                    below(script, 16));
+    put_two_bytes(data + 1, position);
+    data[3] = any_byte(script);
+}
+
+static void set_motor_ip_data(struct script *script, uint8_t *data)
+{
+    data[0] = (uint8_t)ONE_OF(script, 0, 0, 1, 1, 1, 3, 3, 3, 3, 4, 2, 5, below(script, 256));
+    data[1] = any_favourite_number(script);
+    uint16_t value = any_percent(script);
+    if (data[0] == IP_DIVIDE)
+        value = (uint16_t)ONE_OF(script, 0, 1, 2, 3, 15, 16, 17, 258, between(script, 1, 16));
+    put_two_bytes(data + 2, value);
+}
+
+/* Priorities around the holder's. */
+static void lock_data(struct script *script, uint8_t *data)
+{
+    uint32_t held = script->console.board.priority;
+    data[0] = (uint8_t)ONE_OF(script, 0, 0, 0, 1, 1, 1, 1, 1, 3, 4, 4, 2, 5, below(script, 256));
+    data[1] = (uint8_t)ONE_OF(script, 0, 1, 254, 255, held, held + 1, held - 1, held - 1, below(script, 256),
+                              below(script, 256));
+}
+
+static void group_data(struct script *script, uint8_t *data)
+{
+    data[0] = (uint8_t)ONE_OF(script, 0, 1, 14, 15, 16, 17, 255, below(script, 16), below(script, 16),
+                              below(script, 16));
+    put_three_bytes(data + 1, any_group(script));
+}
+
+static void fill_data(struct script *script, struct frame *request)
+{
+    for (size_t at = 0; at < DATA_MOST; at++)
+        request->data[at] = any_byte(script);
+    switch (request->header.message) {
+    case MOVETO:
+        moveto_data(script, request->data);
+        break;
+    case SET_MOTOR_IP:
+        set_motor_ip_data(script, request->data);
+        break;
+    case GET_MOTOR_IP:
+        request->data[0] = any_favourite_number(script);
+        break;
+    case SET_NETWORK_LOCK:
+        lock_data(script, request->data);
+        break;
+    case GET_GROUP_ADDR:
+    case SET_GROUP_ADDR:
+        group_data(script, request->data);
+        break;
+    default:
+        break;
+    }
+}
+
+struct frame any_request(struct script *script)
+{
+    struct frame request = {.header = {.message = any_message(script), .acknowledge = chance(script, 70)}};
+    const struct message_row *row = row_of(request.header.message);
+    address_request(script, &request.header);
+    choose_types(script, &request.header);
+    fill_data(script, &request);
+    request.data_count = any_data_count(script, row == NULL ? 0 : row->data_at_least);
+    return request;
+}
+
+/* An unlock that is accepted, so that locks do not stand for ever. */
+struct frame unlocking_request(struct script *script)
+{
+    struct frame request = {
+        .header = {.message = SET_NETWORK_LOCK,
+                   .acknowledge = chance(script, 60),
+                   .source = 0xFFFF00,
+                   .destination = own_node_id(script)},
+        .data = {LOCK_UNLOCK, (uint8_t)between(script, script->console.board.priority, 255)},
+        .data_count = 2,
+    };
+    return request;
+}
+
+void board_frame_line(struct script *script)
+{
+    bool unlock = script->console.board.locked && chance(script, 4);
+    struct frame request = unlock ? unlocking_request(script) : any_request(script);
+    struct loose_bundle bundle = bundle_of(&request);
+    start_line(script, "frame");
+    put_hex(script, bundle.bytes, bundle.count);
+}
+
+void damaged_frame_line(struct script *script)
+{
+    struct frame request = any_request(script);
+    struct loose_bundle bundle = bundle_of(&request);
+    damage_bundle(script, &bundle);
+    start_line(script, "frame");
+    put_hex(script, bundle.bytes, bundle.count);
+}
+
+/* ------------------------------------------------------------------------
+ * Set-up and events
+ * ------------------------------------------------------------------------ */
+
+void node_line(struct script *script)
+{
+    bool valid = chance(script, 60);
+    uint32_t node_id = ONE_OF(script, 0x000001, 0x000100, 0x050403, 0x050002, 0xFFFEFF,
+                              between(script, NODE_ID_FIRST, NODE_ID_LAST));
+    uint32_t type = between(script, 1, NODE_TYPE_LAST);
+    uint32_t travel = ONE_OF(script, 100, 101, 199, 200, 201, 255, 256, 1000, 32767, 32768, 65534, 65535,
+                             between(script, 100, 1000), between(script, 100, 65535));
+    if (!valid && chance(script, 40))
+        node_id = ONE_OF(script, 0x000000, 0xFFFF00, 0xFFFFFE, 0xFFFFFF);
+    if (!valid && chance(script, 40))
+        type = ONE_OF(script, 0, 16, 255);
+    if (!valid && chance(script, 40))
+        travel = ONE_OF(script, 0, 1, 99);
+    start_line(script, "node");
+    put_id(script, node_id);
+    put_decimal(script, type);
+    put_decimal(script, travel);
+}
+
+/* Pulses that lie about the middle between two percents. */
+static uint32_t pulse_about_a_half(struct script *script)
+{
+    uint32_t odd = 2 * below(script, 100) + 1;
+    return odd * own_travel(script) / 200 + below(script, 2);
+}
+
+/* Between the position and the target, at it, or beyond it. */
+static uint32_t pulse_about_target(struct script *script)
+{
+    const struct board *board = &script->console.board;
+    uint32_t least = board->position < board->target ? board->position : board->target;
+    uint32_t most = board->position < board->target ? board->target : board->position;
+    return ONE_OF(script, board->target, board->target, board->target + 1, board->target - 1,
+                  board->position, between(script, least, most), between(script, least, most),
+                  between(script, least, most), 0, board->travel)
+        & 0xFFFF;
+}
+
+static uint32_t any_pulse(struct script *script)
+{
+    const struct board *board = &script->console.board;
+    uint32_t travel = own_travel(script);
+    uint32_t favourite = board->favourites[below(script, FAVOURITES)].pulse;
+    return ONE_OF(script, 0, 1, travel, travel - 1, travel + 1, 65535, favourite, favourite, favourite,
+                  below(script, travel + 1), below(script, travel + 1), pulse_about_a_half(script),
+                  pulse_about_a_half(script))
+        & 0xFFFF;
+}
+
+void pulse_line(struct script *script)
+{
+    bool towards = script->console.board.running && chance(script, 80);
+    start_line(script, "pulse");
+    put_decimal(script, towards ? pulse_about_target(script) : any_pulse(script));
+}
+
+void blocked_line(struct script *script)
+{
+    start_line(script, "blocked");
+    put_hex_byte(script, (uint8_t)ONE_OF(script, 0x20, 0x20, 0x21, 0x21, 0x22, 0x22, 0x00, 0x1F, 0x23, 0x30, 0xFF));
+}
+
+void cleared_line(struct script *script)
+{
+    start_line(script, "cleared");
+}
+
+void power_line(struct script *script)
+{
+    start_line(script, "power");
+}
+
+void state_line(struct script *script)
+{
+    start_line(script, "state");
+}
