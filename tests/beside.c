@@ -1,10 +1,13 @@
 /*
  * The proved code beside the second program's: both go through the same
  * workloads in one process, round by round, and have to give the same numbers.
+ * Of the board there are two in C: the second program's, and the same with the
+ * check of its state, row 33, that document 01 asks for at every call.
  *
  *   beside                      for each row its title and the ratio of the two
  *                               medians: over 1, the proved code is the slower
- *   beside answers              the same numbers, once through each row, untimed
+ *   beside answers              the same numbers, once through each row, untimed,
+ *                               and of boards that row 33 refuses
  *   beside ROW SIDE TIMES       one side of one row alone, so many times, for
  *                               whoever counts its instructions
  *
@@ -12,12 +15,23 @@
  */
 
 #define _POSIX_C_SOURCE 200809L
-#define main second_main
-#include "second/second.c"
-#undef main
-
+#include <stdio.h>
 #include <stdlib.h>
+#include <string.h>
 #include <time.h>
+
+/* The second program's files, in one unit, so that calls from one to another can be inlined. */
+#include "second/frame.c"
+#include "second/reader.c"
+#include "second/travel.c"
+#include "second/board.c"
+#include "second/messages.c"
+#include "second/register.c"
+#include "second/words.c"
+#include "second/script_line.c"
+#include "second/script_frame.c"
+#include "second/script_board.c"
+#include "second/script_register.c"
 
 /* The proved code, of the crate `speed`: a lent slice is its start and its length. */
 uint64_t speed_reader(const uint8_t *bytes, size_t count, const uint16_t *silences, size_t silence_count);
@@ -30,14 +44,23 @@ enum {
     SLOT = 32,
     SLOTS = 4096,
     FRAME_WORTH = 256,
+    OWN_ID = 0x050403,
     OWN_TYPE = 2,
     OWN_TRAVEL = 1000,
     OWN_LINE = 1,
     MOTOR_SIZE = 16,
+    BROKEN_BOARD = 33, /* a row that the second program does not have, since its state is its own */
     REFUSED = 1000 /* speed_file answers the count held, or this and the refusal's number */
 };
 
-static const uint32_t OWN_ID = 0x050403;
+/* What a board is set up with. */
+struct settings {
+    uint32_t node_id;
+    uint8_t type;
+    uint16_t travel;
+};
+
+static const struct settings own = {OWN_ID, OWN_TYPE, OWN_TRAVEL};
 
 struct workload {
     uint8_t slots[SLOT * SLOTS]; /* a bundle each: its length, then its bytes */
@@ -85,17 +108,69 @@ static uint64_t second_bundles(const struct workload *work)
     return total;
 }
 
-static uint64_t second_board(const struct workload *work)
+/*
+ * Row 33, which document 01 asks for at every call: the settings' ranges;
+ * within the travel the position, the target while running, and every favourite
+ * that is set; the lock's holder an address.  All favourites are looked at, so
+ * that the compiler takes several at once: quicker than to stop at the first.
+ */
+static bool is_sound(const struct board *board)
+{
+    if (!is_node_id(board->node_id) || board->type < 1 || board->type > NODE_TYPE_LAST || board->travel < TRAVEL_LEAST)
+        return false;
+    if (board->position > board->travel || (board->running && board->target > board->travel))
+        return false;
+    bool beyond = false;
+    for (size_t at = 0; at < FAVOURITES; at++)
+        beyond |= board->favourites[at].set & (board->favourites[at].pulse > board->travel);
+    return !beyond && board->holder <= ADDRESS_LAST;
+}
+
+/* Here, as in the proved code, a reply is its bytes and then zeros. */
+static enum refusal plain_turn(struct board *board, const uint8_t *bundle, size_t count, struct wire *sent)
+{
+    *sent = (struct wire){0};
+    return bundle_to_board(board, bundle, count, sent);
+}
+
+static enum refusal checked_turn(struct board *board, const uint8_t *bundle, size_t count, struct wire *sent)
+{
+    *sent = (struct wire){0};
+    if (!is_sound(board))
+        return (enum refusal)BROKEN_BOARD;
+    return bundle_to_board(board, bundle, count, sent);
+}
+
+/* As in the proved code, also of settings that row 32 refuses. */
+static struct board fresh_board(const struct settings *settings)
+{
+    struct board board = {.node_id = settings->node_id, .type = settings->type, .travel = settings->travel};
+    power_up(&board);
+    return board;
+}
+
+typedef enum refusal board_turn(struct board *board, const uint8_t *bundle, size_t count, struct wire *sent);
+
+static inline uint64_t turns_of(const struct workload *work, const struct settings *settings, board_turn *turn)
 {
     uint64_t total = 0;
-    struct board board;
-    set_up_board(&board, OWN_ID, OWN_TYPE, OWN_TRAVEL);
+    struct board board = fresh_board(settings);
     for (const uint8_t *slot = work->slots; slot < work->slots + sizeof work->slots; slot += SLOT) {
         struct wire sent;
-        enum refusal refusal = bundle_to_board(&board, slot + 1, slot[0], &sent);
-        total += refusal == ACCEPTED ? sent.count : (uint64_t)refusal;
+        enum refusal refusal = turn(&board, slot + 1, slot[0], &sent);
+        total += refusal == ACCEPTED ? sent.count + sent.bytes[10] : (uint64_t)refusal;
     }
     return total;
+}
+
+static uint64_t second_board(const struct workload *work)
+{
+    return turns_of(work, &own, plain_turn);
+}
+
+static uint64_t checked_board(const struct workload *work)
+{
+    return turns_of(work, &own, checked_turn);
 }
 
 static uint64_t second_register(const struct workload *work)
@@ -125,9 +200,14 @@ static uint64_t proved_bundles(const struct workload *work)
     return speed_bundles(work->slots, sizeof work->slots, buffer, sizeof buffer);
 }
 
+static uint64_t proved_turns(const struct workload *work, const struct settings *settings)
+{
+    return speed_board(work->slots, sizeof work->slots, settings->node_id, settings->type, settings->travel);
+}
+
 static uint64_t proved_board(const struct workload *work)
 {
-    return speed_board(work->slots, sizeof work->slots, OWN_ID, OWN_TYPE, OWN_TRAVEL);
+    return proved_turns(work, &own);
 }
 
 /* The lent run: 256 records, each of which takes MOTOR_SIZE bytes; zeros are an empty register. */
@@ -182,7 +262,7 @@ static void requests_to_board(void)
 {
     struct board *board = &script.console.board;
     script.console.has_board = true;
-    set_up_board(board, OWN_ID, OWN_TYPE, OWN_TRAVEL);
+    *board = fresh_board(&own);
     for (size_t number = 0; number < SLOTS; number++) {
         struct wire sent;
         bool unlock = board->locked && chance(&script, 20);
@@ -258,6 +338,7 @@ static const struct row rows[] = {
     {"bytes through the reader's run", 0, proved_reader, second_reader},
     {"bundles read and written", 0, proved_bundles, second_bundles},
     {"board turns over a mix of messages", 0, proved_board, second_board},
+    {"the same turns, C checking row 33 too", 0, proved_board, checked_board},
     {"register filings, 10 motors held", 10, proved_register, second_register},
     {"register filings, 100 motors held", 100, proved_register, second_register},
     {"register filings, 256 motors held", 256, proved_register, second_register},
@@ -274,15 +355,38 @@ static void prepare(const struct row *row)
         reports_of_motors(row->motors);
 }
 
+static bool are_same(const char *title, uint64_t proved, uint64_t second)
+{
+    if (proved != second)
+        fprintf(stderr, "%s: the proved code gives %llu, the second program's %llu\n", title,
+                (unsigned long long)proved, (unsigned long long)second);
+    return proved == second;
+}
+
 /* Both sides of a row, once. */
 static bool same_answer(const struct row *row, double *proved_taken, double *second_taken)
 {
-    uint64_t one = timed(row->proved, proved_taken);
-    uint64_t other = timed(row->second, second_taken);
-    if (one != other)
-        fprintf(stderr, "%s: the proved code gives %llu, the second program's %llu\n", row->title,
-                (unsigned long long)one, (unsigned long long)other);
-    return one == other;
+    uint64_t proved = timed(row->proved, proved_taken);
+    uint64_t second = timed(row->second, second_taken);
+    return are_same(row->title, proved, second);
+}
+
+/* Of settings that row 32 refuses, row 33 refuses every bundle. */
+static bool same_refusals(void)
+{
+    static const struct settings refused[] = {
+        {NODE_ID_FIRST - 1, OWN_TYPE, OWN_TRAVEL}, {NODE_ID_LAST + 1, OWN_TYPE, OWN_TRAVEL},
+        {OWN_ID, 0, OWN_TRAVEL},                   {OWN_ID, NODE_TYPE_LAST + 1, OWN_TRAVEL},
+        {OWN_ID, OWN_TYPE, TRAVEL_LEAST - 1},
+    };
+    requests_to_board();
+    for (size_t at = 0; at < sizeof refused / sizeof refused[0]; at++) {
+        uint64_t proved = proved_turns(&work, &refused[at]);
+        uint64_t second = turns_of(&work, &refused[at], checked_turn);
+        if (!are_same("row 33", proved, second))
+            return false;
+    }
+    return true;
 }
 
 static bool compare(const struct row *row)
@@ -322,5 +426,5 @@ int main(int count, char **arguments)
     for (size_t at = 0; at < ROWS; at++)
         if (!(answers ? compare_answers(&rows[at]) : compare(&rows[at])))
             return 1;
-    return 0;
+    return answers && !same_refusals() ? 1 : 0;
 }
