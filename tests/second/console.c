@@ -14,7 +14,7 @@
  * Commands
  * ------------------------------------------------------------------------ */
 
-/* Each takes the words behind its name; false when they are not as laid down. */
+/* Each takes the words behind its name; false when they are malformed. */
 typedef bool command(struct console *console, const struct word *words, struct rows *rows);
 
 /* Before a successful "node" the commands of the board write "no node". */

@@ -1,4 +1,4 @@
-/* Lines that are not as laid down, and lines passed over. */
+/* Lines that are malformed, and lines passed over. */
 
 #include "script_malformed.h"
 

@@ -1,4 +1,4 @@
-/* Lines of a script that are not as laid down, and lines passed over. */
+/* Lines of a script that are malformed, and lines passed over. */
 
 #ifndef SECOND_SCRIPT_MALFORMED_H
 #define SECOND_SCRIPT_MALFORMED_H

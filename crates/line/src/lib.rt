@@ -1,4 +1,4 @@
-// The line reader: fed a byte at a time with the silence before it, or over two lent runs, it answers for each bundle that has ended.
+// The line reader: fed a byte at a time with the silence before it, or over two lent runs, it gives an answer to each bundle that has ended.
 mod beyond;
 mod reader;
 

@@ -12,10 +12,10 @@ use board::Node;
 use frame::Address;
 use frame::data_byte;
 ghost use mathlib.Core.Path.{_≡_};
-ghost use Rattle.frame.specs.Layout.{dataOf};
 ghost use mathlib.Core.Bool.{not, _&&_};
 ghost use lib.Dec.{leb};
 ghost use Rattle.meaning.specs.Membership.{isIn};
+ghost use Rattle.frame.specs.Layout.{dataOf};
 ghost use Rattle.board.specs.Lock.{admits};
 ghost use Rattle.messages.specs.Locking.{lockFunctions, lockedBy, setLockRow, lockRow};
 

@@ -59,9 +59,9 @@ pub enum Refusal {
     TooManyMotors,
     // 42: the stored form is not as long as its count says.
     WrongFormLength,
-    // 43: the stored form's contents are not as laid down.
+    // 43: the stored form's contents are malformed.
     BadContents,
-    // 44: a body of the stored form is not as laid down.
+    // 44: a body of the stored form is malformed.
     BadBody,
     // 45: the buffer has no room for the stored form.
     NoRoomForForm,
