@@ -151,7 +151,8 @@ module _ (n : Node) (t : Typed n) where
   unfolding afterPulse
   at-pulse-typed p =
       either LeavesTyped (not (sound n)) (λ e. t) λ e.
-      either LeavesTyped (ltb (n .settings .travel .0) (p .0)) (λ g. t) (λ g. drive-kept-typed n t (atPulse (n .drive) p) (at-pulse-fits (n .drive) (drive-fits n t) p))
+      either LeavesTyped (ltb (n .settings .travel .0) (p .0)) (λ g. t)
+      (λ g. drive-kept-typed n t (atPulse (n .drive) p) (at-pulse-fits (n .drive) (drive-fits n t) p))
 
   pub blocked-typed : (cause : ℕ) → Typed (afterBlocked n cause .node)
   unfolding afterBlocked
@@ -201,7 +202,8 @@ ChangeFits (Put index low middle high) = (low < 256) × ((middle < 256) × (high
 pub applied-typed : (groups : Groups) (change : Change) → ChangeFits change → TypedTable groups → TypedTable (applied groups change)
 applied-typed groups Keep f t = t
 applied-typed groups (Put index low middle high) f t =
-    either TypedTable (ltb 15 index) (λ e. t) (λ e. set-fits groups index (low ∷ middle ∷ high ∷ []) (three-fit low middle high (f .0) (f .1 .0) (f .1 .1)) t)
+    either TypedTable (ltb 15 index) (λ e. t)
+    (λ e. set-fits groups index (low ∷ middle ∷ high ∷ []) (three-fit low middle high (f .0) (f .1 .0) (f .1 .1)) t)
 
 empty-typed : (k : ℕ) → TypedTable (replicate k (0 ∷ 0 ∷ 0 ∷ []))
 empty-typed zero at place = omega arith

@@ -35,7 +35,8 @@ module _ (n : Node) where
   pub parts-of : sound n ≡ true → Sound n
   parts-of e =
       let t = n .settings .travel in
-      let a = both (inRange (n .settings)) (driveWithin t (n .drive) && (ipsWithin t (n .favourites .slots) && leb (n .lock .holder .0) 0xFFFFFF)) e in
+      let a = both (inRange (n .settings))
+      (driveWithin t (n .drive) && (ipsWithin t (n .favourites .slots) && leb (n .lock .holder .0) 0xFFFFFF)) e in
       let b = both (driveWithin t (n .drive)) (ipsWithin t (n .favourites .slots) && leb (n .lock .holder .0) 0xFFFFFF) (a .1) in
       let c = both (ipsWithin t (n .favourites .slots)) (leb (n .lock .holder .0) 0xFFFFFF) (b .1) in
       record {
@@ -48,7 +49,8 @@ module _ (n : Node) where
   pub sound-of : Sound n → sound n ≡ true
   sound-of p =
       let t = n .settings .travel in
-      and-so (inRange (n .settings)) (driveWithin t (n .drive) && (ipsWithin t (n .favourites .slots) && leb (n .lock .holder .0) 0xFFFFFF)) (p .settings-in-range)
+      and-so (inRange (n .settings)) (driveWithin t (n .drive) && (ipsWithin t (n .favourites .slots) && leb (n .lock .holder .0) 0xFFFFFF))
+      (p .settings-in-range)
       (and-so (driveWithin t (n .drive)) (ipsWithin t (n .favourites .slots) && leb (n .lock .holder .0) 0xFFFFFF) (p .drive-within)
       (and-so (ipsWithin t (n .favourites .slots)) (leb (n .lock .holder .0) 0xFFFFFF) (p .ips-within)
       (le-leb (n .lock .holder .0) 0xFFFFFF (p .holder-is-an-address))))
@@ -105,7 +107,8 @@ module _ (n : Node) (s : sound n ≡ true) where
   at-pulse-keeps-sound p =
       either After-is-sound (not (sound n)) (λ e. s) λ e.
       either After-is-sound (ltb (n .settings .travel .0) (p .0)) (λ f. s) λ f.
-      drive-kept-sound n s (atPulse (n .drive) p) (at-pulse-within (n .settings .travel) (n .drive) (parts-of n s .drive-within) p (ltb-false (n .settings .travel .0) (p .0) f))
+      drive-kept-sound n s (atPulse (n .drive) p)
+      (at-pulse-within (n .settings .travel) (n .drive) (parts-of n s .drive-within) p (ltb-false (n .settings .travel .0) (p .0) f))
 
   pub blocked-keeps-sound : (cause : ℕ) → After-is-sound (afterBlocked n cause)
   unfolding afterBlocked

@@ -1,42 +1,11 @@
--- The worked figure P11 of document 01: one NodeID on two lines, two records, two rows.
+-- P11 holds: both sides compute to the same.
 -- Assumes nothing.
-use mathlib.Core.Path.{_≡_, refl}
-use mathlib.Core.Bool.{true}
-use mathlib.Core.List.{List, [], _∷_}
-use mathlib.Core.Option.{some}
-use Prim.Native.Nat.{ℕ}
-use Rattle.frame.specs.Address.{addressOf}
-use Rattle.motors.specs.Motor.{unread, withReading, earlierOf, isMotor, isNode, isReading, unreadPart, rightOf, blankOf, followsOf}
-use Rattle.motors.specs.Register.{found, filled, soundFrom, soundOf, foundIn}
-use Rattle.motors.specs.Filing.{keeping}
-use Rattle.motors.specs.declared.motor.Motor.{Motor}
+use mathlib.Core.Path.{refl}
+use Rattle.motors.specs.Motor.{earlierOf, isMotor, isNode, isReading, unreadPart, rightOf, blankOf, followsOf}
+use Rattle.motors.specs.Register.{filled, soundFrom, soundOf, foundIn}
 use Rattle.form.specs.Layout.{formOf, contentsOf, bodiesOf, entryRight, contentsRight, bodyRight, bodiesRight, motorsOf}
 use Rattle.form.specs.Reading.{readOf}
-
--- NodeID 05:04:03, as labels print it.
-abbrev node : ℕ
-node = addressOf 0x03 0x04 0x05 .0
-
--- On line 0 with a reading, on line 1 without.
-abbrev pub twoMotors : List Motor
-twoMotors = withReading 0 node 333 33 0xFF ∷ unread 1 node ∷ []
-
-abbrev pub wholeFile : List ℕ
-wholeFile =
-    0x01 ∷ 0x02 ∷ 0x00 ∷
-    0x00 ∷ 0x03 ∷ 0x04 ∷ 0x05 ∷ 0x0F ∷ 0x00 ∷
-    0x01 ∷ 0x03 ∷ 0x04 ∷ 0x05 ∷ 0x14 ∷ 0x00 ∷
-    0x01 ∷ 0x4D ∷ 0x01 ∷ 0x21 ∷ 0xFF ∷
-    0x00 ∷ 0x00 ∷ 0x00 ∷ 0x00 ∷ 0x00 ∷ []
-
--- The whole file, written and read, and both motors found under line and NodeID.
-abbrev pub P11 : Type 0
-P11 =
-    (formOf twoMotors ≡ wholeFile)
-    × (readOf (filled []) wholeFile ≡ keeping twoMotors)
-    × (soundOf (filled twoMotors) 2 ≡ true)
-    × (found (filled twoMotors) 2 0 node ≡ some (withReading 0 node 333 33 0xFF))
-    × (found (filled twoMotors) 2 1 node ≡ some (unread 1 node))
+use Rattle.form.specs.Figures.{P11}
 
 pub p11 : P11
 unfolding formOf contentsOf bodiesOf entryRight contentsRight bodyRight bodiesRight motorsOf readOf filled soundFrom soundOf foundIn earlierOf isMotor isNode isReading unreadPart rightOf blankOf followsOf

@@ -25,7 +25,8 @@ filled-behind : (l : List Motor) (i : ℕ) → length l ≤ i → i < 256 → ge
 unfolding filled
 filled-behind l i h k =
     let p : i ≡ length l + (i - length l) = omega arith in
-    rw p (getD-append-add l (replicate (256 - length l) zeros) (i - length l) zeros ∙ getD-replicate (256 - length l) (i - length l) zeros zeros (omega arith))
+    rw p (getD-append-add l (replicate (256 - length l) zeros) (i - length l) zeros ∙ getD-replicate (256 - length l) (i - length l) zeros zeros
+    (omega arith))
 
 module _ (b : List ℕ) (first count : ℕ) (few : count ≤ 256) where
   abbrev motors : List Motor

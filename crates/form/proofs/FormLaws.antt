@@ -37,7 +37,8 @@ use Rattle.form.proofs.WrittenBack.{three-bytes, motors-in-order, conte
 module _ (l : List Motor) where
   pub length-form : length (formOf l) ≡ formLength (length l)
   unfolding formOf
-  length-form = rw (length-append (contentsOf (firstBody (length l)) l) (bodiesOf l), length-contents (firstBody (length l)) l, length-bodies l) (omega arith)
+  length-form = rw (length-append (contentsOf (firstBody (length l)) l) (bodiesOf l), length-contents (firstBody (length l)) l, length-bodies l)
+      (omega arith)
 
   count-back : length l ≤ 256 → countIn (formOf l) ≡ length l
   unfolding formOf
@@ -146,7 +147,8 @@ module _ (run : List Motor) (b : List ℕ) where
     an-accepted-form-gives-a-sound-register =
         let few : length motors ≤ 256 = omega (arith, done .at-most-256, length-motors (countIn b) (contentsIn b) (bodiesIn b)) in
         ap₂ soundOf (done .places) (done .number)
-        ∙ is-sound motors few (motors-in-order zeros (firstBody (countIn b)) (countIn b) (contentsIn b) (bodiesIn b) (done .contents-right) (done .bodies-right))
+        ∙ is-sound motors few
+        (motors-in-order zeros (firstBody (countIn b)) (countIn b) (contentsIn b) (bodiesIn b) (done .contents-right) (done .bodies-right))
 
     pub the-count-is-the-one-stored : n ≡ countIn b
     the-count-is-the-one-stored = done .number ∙ length-motors (countIn b) (contentsIn b) (bodiesIn b)
@@ -160,19 +162,23 @@ module _ (run : List Motor) (b : List ℕ) where
           let left : length (bodiesIn b) ≡ 5 * countIn b = length-drop (firstBody (countIn b)) b ∙ omega (arith, done .as-long-as-it-says) in
           sym (append-nil (bodiesOf motors))
           ∙ ap (λ (r : List ℕ). bodiesOf motors ++ r) (sym (drop-of-length-le (bodiesIn b) {i = 5 * countIn b} (omega (arith, left))))
-          ∙ bodies-again (countIn b) (contentsIn b) (bodiesIn b) (drop-bytes (firstBody (countIn b)) b bytes) (omega (arith, left)) (done .bodies-right)
+          ∙ bodies-again (countIn b) (contentsIn b) (bodiesIn b) (drop-bytes (firstBody (countIn b)) b bytes) (omega (arith, left))
+          (done .bodies-right)
 
       contents-whole : contentsOf (firstBody (countIn b)) motors ++ bodiesIn b ≡ contentsIn b
       contents-whole =
           let left : length (contentsIn b) ≡ 11 * countIn b = length-drop 3 b ∙ omega (arith, done .as-long-as-it-says) in
           ap (λ (r : List ℕ). contentsOf (firstBody (countIn b)) motors ++ r) (sym (drop-drop (6 * countIn b) 3 b))
-          ∙ contents-again zeros (firstBody (countIn b)) (countIn b) (contentsIn b) (bodiesIn b) (drop-bytes 3 b bytes) (omega (arith, left)) (done .contents-right)
+          ∙ contents-again zeros (firstBody (countIn b)) (countIn b) (contentsIn b) (bodiesIn b) (drop-bytes 3 b bytes) (omega (arith, left))
+          (done .contents-right)
 
       whole : formOf motors ≡ b
       unfolding formOf
       whole =
-          let low : countIn b % 256 ≡ getD b 1 0 = omega (arith, bytes 1 (omega (arith, done .as-long-as-it-says)), bytes 2 (omega (arith, done .as-long-as-it-says))) in
-          let high : countIn b / 256 ≡ getD b 2 0 = omega (arith, bytes 1 (omega (arith, done .as-long-as-it-says)), bytes 2 (omega (arith, done .as-long-as-it-says))) in
+          let low : countIn b % 256 ≡ getD b 1 0 = omega
+          (arith, bytes 1 (omega (arith, done .as-long-as-it-says)), bytes 2 (omega (arith, done .as-long-as-it-says))) in
+          let high : countIn b / 256 ≡ getD b 2 0 = omega
+          (arith, bytes 1 (omega (arith, done .as-long-as-it-says)), bytes 2 (omega (arith, done .as-long-as-it-says))) in
           rw (length-motors (countIn b) (contentsIn b) (bodiesIn b), bodies-whole, contents-whole, low, high)
           (ap (λ (x : ℕ). x ∷ getD b 1 0 ∷ getD b 2 0 ∷ contentsIn b) (sym (done .begins-with-1))
           ∙ sym (three-bytes b (omega (arith, done .as-long-as-it-says))))
@@ -199,7 +205,8 @@ module _ (run : List Motor) (count : ℕ) (buffer : List ℕ) (n : ℕ) (e : wri
   pub the-form-stands-at-the-start : bufferAfter run count buffer ≡ over (formOf (held run count)) buffer
   the-form-stands-at-the-start = ap (λ (w : Written). laid w run count buffer) e
 
-  pub no-byte-behind-the-form-is-changed : drop (length (formOf (held run count))) (bufferAfter run count buffer) ≡ drop (length (formOf (held run count))) buffer
+  pub no-byte-behind-the-form-is-changed : drop (length (formOf (held run count))) (bufferAfter run count buffer) ≡ drop
+      (length (formOf (held run count))) buffer
   no-byte-behind-the-form-is-changed =
       ap (drop (length (formOf (held run count)))) the-form-stands-at-the-start
       ∙ drop-at (formOf (held run count)) (drop (length (formOf (held run count))) buffer) (length (formOf (held run count))) refl

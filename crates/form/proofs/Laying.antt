@@ -46,7 +46,8 @@ unfolding bodiesOf
 bodies-suc i [] h = absurd (omega arith)
 bodies-suc zero (m ∷ l) h = append-nil (bodyBytes m)
 bodies-suc (suc i) (m ∷ l) h =
-    ap (λ (w : List ℕ). bodyBytes m ++ w) (bodies-suc i l (le-of-suc-le-suc h)) ∙ sym (append-assoc (bodyBytes m) (bodiesOf (take i l)) (bodyBytes (getD l i zeros)))
+    ap (λ (w : List ℕ). bodyBytes m ++ w) (bodies-suc i l (le-of-suc-le-suc h)) ∙ sym
+    (append-assoc (bodyBytes m) (bodiesOf (take i l)) (bodyBytes (getD l i zeros)))
 
 pub contents-more : (place i : ℕ) (l : List Motor) → i < length l
     → contentsOf place (take (i + 1) l) ≡ contentsOf place (take i l) ++ entryBytes (getD l i zeros) (place + 5 * i)

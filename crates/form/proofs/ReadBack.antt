@@ -98,7 +98,8 @@ module _ (m : Motor) (right : rightOf m ≡ true) (rest : List ℕ) where
       let entry : motorOf (entryBytes m place ++ after) (bodyBytes m ++ rest) ≡ unread (m .line) (m .node) = rw (t, node-back) in
       entry ∙ sym (without-reading m right t))
     where
-      node-back : addressOf (getD (bytesOf (address (m .node))) 0 0) (getD (bytesOf (address (m .node))) 1 0) (getD (bytesOf (address (m .node))) 2 0) .0 ≡ m .node
+      node-back : addressOf (getD (bytesOf (address (m .node))) 0 0) (getD (bytesOf (address (m .node))) 1 0)
+          (getD (bytesOf (address (m .node))) 2 0) .0 ≡ m .node
       node-back = ap (λ (a : Address). a .0) (address-of-its-bytes (address (m .node)) (node-small m right))
 
 -- ---- all of them
@@ -124,7 +125,8 @@ pub bodies-back : (p : Motor) (l : List Motor) (rest : List ℕ) → InOrder p l
 unfolding bodiesRight bodiesOf
 bodies-back p [] rest o = refl
 bodies-back p (m ∷ l) rest o =
-    rw (append-assoc (bodyBytes m) (bodiesOf l) rest, body-right-back m (o .0) (bodiesOf l ++ rest), behind m (bodiesOf l ++ rest)) (bodies-back m l rest (o .2))
+    rw (append-assoc (bodyBytes m) (bodiesOf l) rest, body-right-back m (o .0) (bodiesOf l ++ rest), behind m (bodiesOf l ++ rest))
+    (bodies-back m l rest (o .2))
 
 pub motors-back : (p : Motor) (place : ℕ) (l : List Motor) (after rest : List ℕ) → InOrder p l → TwoBytePulses l
     → motorsOf (length l) (contentsOf place l ++ after) (bodiesOf l ++ rest) ≡ l

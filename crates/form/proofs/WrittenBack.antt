@@ -159,7 +159,12 @@ bodies-again (suc count) c d db dl r =
     let b = passed-both (bodyRight d) _ r in
     let five : 5 + 5 * count ≡ 5 * suc count = omega arith in
     let on = bodies-again count (drop 6 c) (drop 5 d) (drop-bytes 5 d db) (rest d dl) (b .1) in
-    rw (append-assoc (bodyBytes (motorOf c d)) (bodiesOf (motorsOf count (drop 6 c) (drop 5 d))) (drop (5 * suc count) d), ← five, ← drop-drop (5 * count) 5 d)
+    rw (
+      append-assoc (bodyBytes (motorOf c d)) (bodiesOf (motorsOf count (drop 6 c) (drop 5 d))) (drop (5 * suc count) d),
+      ← five,
+      ← drop-drop
+          (5 * count) 5 d,
+    )
     (ap (λ (w : List ℕ). bodyBytes (motorOf c d) ++ w) on ∙ body-again c d db (omega arith) (b .0))
   where
     rest : (d : List ℕ) → 5 * suc count ≤ length d → 5 * count ≤ length (drop 5 d)

@@ -35,7 +35,8 @@ module _ (room place : ℕ) (h : Header) (d : List ℕ) where
   unfolding writingOf
   by-number =
       ⊎-elim (λ facts. inl (search arith)) inr
-      (passed-or-answered (λ (a : Writing). (10 ≤ refusedBy a) × (refusedBy a ≤ 14)) (writerTable room place h d) (Next (place + (11 + length d))) (search arith))
+      (passed-or-answered (λ (a : Writing). (10 ≤ refusedBy a) × (refusedBy a ≤ 14)) (writerTable room place h d) (Next (place + (11 + length d)))
+      (search arith))
 
   pub written-exactly-when : Writable room place h d ↔ (refusedBy (writingOf room place h d) ≡ 0)
   written-exactly-when = (λ w. ap refusedBy (writable-is-written w), λ e. ⊎-elim (λ w. w) (λ l. absurd (omega arith)) by-number)

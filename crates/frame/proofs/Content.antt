@@ -15,7 +15,8 @@ module _ (b : List ℕ) where
 
 module _ (b : List ℕ) (i : ℕ) where
   pub data-at : i < dataCount b → getD (dataOf b) i 0 ≡ inverted (getD b (9 + i) 0)
-  data-at h = inside (take (dataCount b) (drop 9 b)) ∙ rw (getD-take (dataCount b) (drop 9 b) i 255 h, getD-drop 9 b i 255, getD-any b (9 + i) 255 0 (omega arith))
+  data-at h = inside (take (dataCount b) (drop 9 b)) ∙ rw
+      (getD-take (dataCount b) (drop 9 b) i 255 h, getD-drop 9 b i 255, getD-any b (9 + i) 255 0 (omega arith))
     where
       inside : (l : List ℕ) → getD (map inverted l) i 0 ≡ inverted (getD l i 255)
       inside l = List·getD-map inverted l i 255

@@ -98,5 +98,9 @@ module _ {room place : ℕ} (h : Header) (d : List ℕ) (w : Writable room place
 
   pub data-read-back : dataOf (frameOf h d) ≡ d
   data-read-back =
-      rw (length-frame h d, take-at (map inverted d) (sumOf (body h d) / 256 ∷ sumOf (body h d) % 256 ∷ []) (11 + length d - 11) (simp length-map (omega arith)))
+      rw (
+        length-frame h d,
+        take-at (map inverted d) (sumOf (body h d) / 256 ∷ sumOf (body h d) % 256 ∷ []) (11 + length d - 11)
+            (simp length-map (omega arith)),
+      )
       (twice-inverted-all d b)

@@ -151,7 +151,14 @@ from b (after s c ∷ es) = go (leb 30 s) refl (from (c ∷ []) es) (from (b ++ 
         → wholly (holds (b ++ c ∷ [])) es ≡ map bundleTold (glue (b ++ c ∷ []) (ends es) (bundles es))
         → said (stepOf (holds b) c s) ++ wholly (stepOf (holds b) c s .reader) es ≡ map bundleTold (glue b t (join c (ends es) (bundles es)))
     go true t p q =
-        rw (step-ends (holds b) c s sound (leb-true 30 s t), ended-is b (begun c), goes-on-as (holds b) (begun c), p, glue-one c (ends es) (bundles es))
+        rw (
+          step-ends (holds b) c s sound (leb-true 30 s t),
+          ended-is b (begun c),
+          goes-on-as (holds b) (begun c),
+          p,
+          glue-one c (ends es)
+              (bundles es),
+        )
         (glue-new b (join c (ends es) (bundles es)))
     go false t p q = rw (step-joins (holds b) c s sound (leb-false 30 s t), joined-is b c, q, glue-more b c (ends es) (bundles es))
 

@@ -17,13 +17,15 @@ pub telling-continued : (r : Reader) (es fs : List Entry) → telling r (es ++ f
 telling-continued r [] fs = refl
 telling-continued r (after s b ∷ es) fs =
     let t = stepOf r b s in
-    ap (λ (xs : List Told). said t ++ xs) (telling-continued (t .reader) es fs) ∙ sym (append-assoc (said t) (telling (t .reader) es) (telling (readerAfter (t .reader) es) fs))
+    ap (λ (xs : List Told). said t ++ xs) (telling-continued (t .reader) es fs) ∙ sym
+    (append-assoc (said t) (telling (t .reader) es) (telling (readerAfter (t .reader) es) fs))
 
 pub wholly-continued : (r : Reader) (es fs : List Entry) → wholly r (es ++ fs) ≡ telling r es ++ wholly (readerAfter r es) fs
 wholly-continued r [] fs = refl
 wholly-continued r (after s b ∷ es) fs =
     let t = stepOf r b s in
-    ap (λ (xs : List Told). said t ++ xs) (wholly-continued (t .reader) es fs) ∙ sym (append-assoc (said t) (telling (t .reader) es) (wholly (readerAfter (t .reader) es) fs))
+    ap (λ (xs : List Told). said t ++ xs) (wholly-continued (t .reader) es fs) ∙ sym
+    (append-assoc (said t) (telling (t .reader) es) (wholly (readerAfter (t .reader) es) fs))
 
 -- All that is told of a whole recording is what its steps tell, and then the close.
 pub steps-and-close : (r : Reader) (es : List Entry) → wholly r es ≡ telling r es ++ said (closeOf (readerAfter r es))

@@ -110,7 +110,8 @@ harmed-owed (pause i) w e h ss o =
     two-pieces w e (pause i) h (take i w) (drop i w) (heard ss) ss (omega (arith, length-take i w, h .0, h .1)) (r .0) (r .1 .0) o
 harmed-owed (lose-pause i) w e h ss o =
     let r = all-refused (lose-pause i) w e h in
-    two-pieces w e (lose-pause i) h (take i w) (drop (suc i) w) (heard ss) ss (omega (arith, length-take i w, length-drop (suc i) w)) (r .0) (r .1 .0) o
+    two-pieces w e (lose-pause i) h (take i w) (drop (suc i) w) (heard ss) ss (omega (arith, length-take i w, length-drop (suc i) w)) (r .0)
+    (r .1 .0) o
 
 pub all-owed : (ss : List Sent) → Owed ss (replies (heard ss))
 all-owed [] = nothing

@@ -108,7 +108,16 @@ pub run-is-steps : (r : Reader) (bytes silences : List ℕ) (place : ℕ) → le
     → Steps r bytes silences place (runOf r bytes silences place)
 unfolding runOf
 run-is-steps r [] silences place n =
-    record { read = 0; to-place = omega arith; within = omega arith; tells = refl; leaves = refl; not-before = λ k h. absurd (omega arith); stops = λ e. refl }
+    record {
+      read = 0;
+      to-place = omega arith;
+      within = omega arith;
+      tells = refl;
+      leaves = refl;
+      not-before = λ k h. absurd
+          (omega arith);
+      stops = λ e. refl;
+    }
 run-is-steps r (byte ∷ bytes) [] place n = absurd (omega arith)
 run-is-steps r (byte ∷ bytes) (silence ∷ silences) place n =
     go (goesOn (s .answer)) refl (run-is-steps (s .reader) bytes silences (suc place) (omega arith))

@@ -83,7 +83,15 @@ module _ (l : List ℕ) (from i : ℕ) (forward : from ≤ i) (zeros : allZeros 
   passed-more n more =
       let e : i + n - from ≡ (i - from) + n = omega arith in
       let f : from + (i - from) ≡ i = omega arith in
-      rw (e, take-add (i - from) n (drop from l), zeros-append (take (i - from) (drop from l)) (take n (drop (i - from) (drop from l))), zeros, drop-drop (i - from) from l, f) more
+      rw (
+        e,
+        take-add (i - from) n (drop from l),
+        zeros-append (take (i - from) (drop from l))
+            (take n (drop (i - from) (drop from l))),
+        zeros,
+        drop-drop (i - from) from l,
+        f,
+      ) more
 
 -- A number made of two is zero when both are, and then so are the parts that they stand for.
 module _ (x y z : ℕ) (up : x ≡ 0 → y ≡ 0 → z ≡ 0) (down : z ≡ 0 → (x ≡ 0) × (y ≡ 0)) where

@@ -12,11 +12,6 @@ module _ {A : Type 0} (test : Bool) (x y : A) where
   pub passed : test ≡ false → (if test then x else y) ≡ y
   passed e = rw e
 
-pub none-applies : {A : Type 0} (first second third : Bool) (x y z rest : A) → first ≡ false → second ≡ false
-    → third ≡ false
-    → (if first then x else if second then y else if third then z else rest) ≡ rest
-none-applies first second third x y z rest a b c = rw (a, b, c)
-
 -- A test as the code asked it, negated, and what its meaning is then.
 pub found-false : {asked test : Bool} → asked ≡ test → not asked ≡ true → test ≡ false
 found-false {asked} e n = sym e ∙ not-true asked n

@@ -80,12 +80,14 @@ all-told P n groups source m d t =
       set-ip = or-refused P n (t .refused) (setIpCodes n d (orderIn d)) (keepingIps n (ordered n (orderIn d))) (λ p. t .done _ _);
       ip = or-refused P n (t .refused) (ipCodes d (ip (byteAt d 0))) (posts n 0x35 (ipData n (ip (byteAt d 0)))) (λ p. t .ip (p .1 .0));
       set-lock =
-          or-refused P n (t .refused) (setLockCodes n d (byteAt d 0) (byteAt d 1)) (acts (lockedBy n source (byteAt d 0) (byteAt d 1)) Keep) (λ p. t .done _ _);
+          or-refused P n (t .refused) (setLockCodes n d (byteAt d 0) (byteAt d 1)) (acts (lockedBy n source (byteAt d 0) (byteAt d 1)) Keep)
+          (λ p. t .done _ _);
       lock = t .lock;
       address = t .address;
       group = or-refused P n (t .refused) (groupCodes 1 d (byteAt d 0)) (posts n 0x61 (groupData groups (byteAt d 0))) (λ p. t .group (p .1 .0));
       set-group =
-          or-refused P n (t .refused) (groupCodes 4 d (byteAt d 0)) (acts n (Put (byteAt d 0) (byteAt d 1) (byteAt d 2) (byteAt d 3))) (λ p. t .done _ _);
+          or-refused P n (t .refused) (groupCodes 4 d (byteAt d 0)) (acts n (Put (byteAt d 0) (byteAt d 1) (byteAt d 2) (byteAt d 3)))
+          (λ p. t .done _ _);
       unknown = t .refused Code.UnknownMessage;
     })
 
@@ -190,12 +192,14 @@ module _ (n : Node) (s : sound n ≡ true) (t : Typed n) where
         position = told Bytes (positionData n) position-bytes;
         status =
             told Bytes (statusData n)
-            (four (statusOf n) (n .drive .direction) (n .drive .source) (n .drive .cause) (status-fits n) (t .direction-fits) (t .source-fits) (t .cause-fits));
+            (four (statusOf n) (n .drive .direction) (n .drive .source) (n .drive .cause) (status-fits n) (t .direction-fits) (t .source-fits)
+            (t .cause-fits));
         ip = λ e. told Bytes (ipData n (ip (byteAt d 0))) (ip-bytes (byteAt d 0) e);
         lock = told Bytes (lockData n) lock-bytes;
         address = told Bytes [] no-bytes;
         group = λ e.
             let entry = getD groups (byteAt d 0) [] in
             told Bytes (groupData groups (byteAt d 0))
-            (four (byteAt d 0) (byteAt entry 0) (byteAt entry 1) (byteAt entry 2) (omega arith) (g (byteAt d 0) 0) (g (byteAt d 0) 1) (g (byteAt d 0) 2));
+            (four (byteAt d 0) (byteAt entry 0) (byteAt entry 1) (byteAt entry 2) (omega arith) (g (byteAt d 0) 0) (g (byteAt d 0) 1)
+            (g (byteAt d 0) 2));
       })

@@ -65,7 +65,11 @@ module _ (n : Node) (t : Typed n) (d : List ℕ) (bytes : (place : ℕ) → byte
   move-fits =
       let target = targetOf n (aimIn d) in
       or-fitting (moveCodes n d (aimIn d)) (moved n target)
-      (λ p. record { node-fits = drive-kept-typed n t (movedTo (n .drive) (pulseOf target)) (moved-fits (n .drive) (drive-fits n t) (pulseOf target)); change-fits = tt })
+      (λ p. record {
+        node-fits = drive-kept-typed n t (movedTo (n .drive) (pulseOf target))
+            (moved-fits (n .drive) (drive-fits n t) (pulseOf target));
+        change-fits = tt;
+      })
 
   ordered-sixteen : (o : Order) → length (ordered n o .slots) ≡ 16
   ordered-sixteen (Delete i) = with-ip-sixteen (n .favourites) i Unset (t .sixteen-slots)
@@ -85,7 +89,8 @@ module _ (n : Node) (t : Typed n) (d : List ℕ) (bytes : (place : ℕ) → byte
   locked-by-fits source function =
       let still = drive-kept-typed n t (halted (n .drive)) (halted-fits (n .drive) (drive-fits n t)) in
       either Typed (eqb function 0) (λ e. lock-kept-typed n t (unlocked (n .lock)) (omega arith)) λ e.
-      either Typed (eqb function 1) (λ e. lock-kept-typed (withDrive n (halted (n .drive))) still (locked (n .lock) source (byteAt d 1)) (bytes 1)) λ e.
+      either Typed (eqb function 1)
+      (λ e. lock-kept-typed (withDrive n (halted (n .drive))) still (locked (n .lock) source (byteAt d 1)) (bytes 1)) λ e.
       either Typed (eqb function 3)
       (λ e. lock-kept-typed n t (saving (n .lock) true) (t .priority-fits))
       (λ e. lock-kept-typed n t (saving (n .lock) false) (t .priority-fits))
@@ -110,7 +115,8 @@ module _ (n : Node) (t : Typed n) (d : List ℕ) (bytes : (place : ℕ) → byte
         set-lock = set-lock-fits source;
         lock = record { node-fits = t; change-fits = tt };
         address = record { node-fits = t; change-fits = tt };
-        group = or-fitting (groupCodes 1 d (byteAt d 0)) (posts n 0x61 (groupData groups (byteAt d 0))) (λ p. record { node-fits = t; change-fits = tt });
+        group = or-fitting (groupCodes 1 d (byteAt d 0)) (posts n 0x61 (groupData groups (byteAt d 0)))
+            (λ p. record { node-fits = t; change-fits = tt });
         set-group =
             or-fitting (groupCodes 4 d (byteAt d 0)) (acts n (Put (byteAt d 0) (byteAt d 1) (byteAt d 2) (byteAt d 3)))
             (λ p. record { node-fits = t; change-fits = (bytes 1, (bytes 2, bytes 3)) });

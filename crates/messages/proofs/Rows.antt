@@ -52,7 +52,8 @@ module _ (n : Node) (d : List ℕ) (passed : ℕ) where
       → setLockRow n source d
       ≡ answerAt passed (refusals n (setLockCodes n d (byteAt d 0) (byteAt d 1))) (acts (lockedBy n source (byteAt d 0) (byteAt d 1)) Keep)
   unfolding setLockRow
-  set-lock-at source = decided passed (refusals n (setLockCodes n d (byteAt d 0) (byteAt d 1))) (acts (lockedBy n source (byteAt d 0) (byteAt d 1)) Keep)
+  set-lock-at source = decided passed (refusals n (setLockCodes n d (byteAt d 0) (byteAt d 1)))
+      (acts (lockedBy n source (byteAt d 0) (byteAt d 1)) Keep)
 
   pub group-at : (groups : Groups) → Applies passed (refusals n (groupCodes 1 d (byteAt d 0)))
       → groupRow n groups d ≡ answerAt passed (refusals n (groupCodes 1 d (byteAt d 0))) (posts n 0x61 (groupData groups (byteAt d 0)))

@@ -95,7 +95,8 @@ module _ (n : Node) (s : sound n ≡ true) where
   move-safe d =
       let target = targetOf n (aimIn d) in
       or-safe (moveCodes n d (aimIn d)) (moved n target)
-      (λ p. driven (movedTo (n .drive) (pulseOf target)) (moved-within travel (n .drive) drive-within (pulseOf target) (pulse-within target (target-within (aimIn d)))))
+      (λ p. driven (movedTo (n .drive) (pulseOf target))
+      (moved-within travel (n .drive) drive-within (pulseOf target) (pulse-within target (target-within (aimIn d)))))
 
   -- The favourites.
   one-ip-within : (i : IpIndex) (x : Ip) → ipWithin travel x ≡ true → ipsWithin travel (withIp (n .favourites) i x .slots) ≡ true
@@ -134,7 +135,8 @@ module _ (n : Node) (s : sound n ≡ true) where
       let holder = parts-of n s .holder-is-an-address in
       let still = driven (halted (n .drive)) (halted-within travel (n .drive) drive-within) in
       either Kept (eqb function 0) (λ e. relocked n s refl (unlocked (n .lock)) (omega arith)) λ e.
-      either Kept (eqb function 1) (λ e. relocked (withDrive n (halted (n .drive))) (still .still-sound) refl (locked (n .lock) source priority) h) λ e.
+      either Kept (eqb function 1)
+      (λ e. relocked (withDrive n (halted (n .drive))) (still .still-sound) refl (locked (n .lock) source priority) h) λ e.
       either Kept (eqb function 3) (λ e. relocked n s refl (saving (n .lock) true) holder) (λ e. relocked n s refl (saving (n .lock) false) holder)
 
   set-lock-safe : (source : Address) (d : List ℕ) → source .0 ≤ 0xFFFFFF → Safe n (setLockRow n source d)

@@ -191,7 +191,8 @@ module _ (run : List Motor) (count : ℕ) (ok : soundOf run count ≡ true) wher
           goes-between m (take count run) (λ h. let k : p < count = omega (arith, at, number, h) in rw (← at, at-held p k) (new k)) ∙ rw (← at)
 
       one-more : length (entered (take count run) m) ≡ suc count
-      one-more = ap length between ∙ simp (length-append, length-drop, length-take) (omega (arith, number, place-at-most, sound .of-256-places, sound .at-most-256))
+      one-more = ap length between ∙ simp (length-append, length-drop, length-take)
+          (omega (arith, number, place-at-most, sound .of-256-places, sound .at-most-256))
 
       pub row-24 : count ≡ 256 → refusing run Refusal.RegisterFull ≡ enteredOf run count m
       row-24 h = sym (entered-by run count m 0 (omega (arith, one-more)))

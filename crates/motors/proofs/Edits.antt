@@ -57,13 +57,15 @@ module _ (l : List Motor) (p : ℕ) (e : length l ≡ 256) (small : p < 256) whe
       let z : k ≡ length (take p l) + (k - p) = omega (arith, front) in
       let y : suc p + (k - p) ≡ k + 1 = omega arith in
       sym (ap (λ (j : ℕ). getD (take p l ++ (drop (suc p) l ++ (zeros ∷ []))) j zeros) z ∙ getD-append-add (take p l) _ (k - p) zeros
-      ∙ List·getD-append (drop (suc p) l) _ zeros (k - p) (omega (arith, back)) ∙ getD-drop (suc p) l (k - p) zeros ∙ ap (λ (j : ℕ). getD l j zeros) y)
+      ∙ List·getD-append (drop (suc p) l) _ zeros (k - p) (omega (arith, back)) ∙ getD-drop (suc p) l (k - p) zeros ∙ ap
+      (λ (j : ℕ). getD l j zeros) y)
 
   pub remove-last : zeros ≡ getD (removed l p) 255 zeros
   unfolding removed
   remove-last =
       let z : 255 ≡ length (take p l) + (length (drop (suc p) l) + 0) = omega (arith, front, back) in
-      sym (ap (λ (j : ℕ). getD (take p l ++ (drop (suc p) l ++ (zeros ∷ []))) j zeros) z ∙ getD-append-add (take p l) _ (length (drop (suc p) l) + 0) zeros ∙ getD-append-add (drop (suc p) l) _ 0 zeros)
+      sym (ap (λ (j : ℕ). getD (take p l ++ (drop (suc p) l ++ (zeros ∷ []))) j zeros) z ∙ getD-append-add (take p l) _
+      (length (drop (suc p) l) + 0) zeros ∙ getD-append-add (drop (suc p) l) _ 0 zeros)
 
 -- A motor put in at a place.
 module _ (l : List Motor) (p : ℕ) (m : Motor) (e : length l ≡ 256) (small : p < 256) where

@@ -170,7 +170,8 @@ module _ (run : List Motor) (count line : ℕ) (b : List ℕ) where
     pub the-register-stays-sound : soundOf (after .motors) n ≡ true
     the-register-stays-sound =
         let m = done .motor in
-        let o = entered-in-order m (done .shown .right) zeros (held run count) (zeros-first m (done .shown .right)) (sound-is run count (done .ok) .in-order) in
+        let o = entered-in-order m (done .shown .right) zeros (held run count) (zeros-first m (done .shown .right))
+        (sound-is run count (done .ok) .in-order) in
         ap₂ soundOf (done .places) (done .number) ∙ is-sound (entered (held run count) m) (done .at-most-256) o
 
   -- A register once sound stays so, whatever is filed.

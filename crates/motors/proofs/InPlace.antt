@@ -186,7 +186,8 @@ module _ (run : List Motor) (count : ℕ) (ok : soundOf run count ≡ true) wher
         let here : c ≡ getD closed (p + n) zeros = rw at at (z (omega arith)) in
         carries-down n (set b (p + n) c) (getD b (p + n) zeros) (omega arith) (lower-more n b c small L here) (λ h.
         let down : p + n - 1 + 1 ≡ p + n = omega arith in
-        L .rest (p + n) (omega arith) ∙ sym (ap (λ (j : ℕ). getD run j zeros) down) ∙ remove-at run p full small-place (p + n - 1) (omega arith) (omega arith))
+        L .rest (p + n) (omega arith) ∙ sym (ap (λ (j : ℕ). getD run j zeros) down) ∙ remove-at run p full small-place (p + n - 1) (omega arith)
+        (omega arith))
 
     gap-closes : movedDown run p (count - 1) zeros ≡ removed run p
     unfolding movedDown

@@ -84,7 +84,8 @@ module _ (x m : Motor) where
       (λ s. so-said m x (inl (later-line (ltb-false _ _ t) (eqb-false _ _ s))))
     where
       later-node : x .line ≡ m .line → m .node ≤ x .node → m .node < x .node
-      later-node l b = by-test (eqb (x .node) (m .node)) (λ s. absurd (not-both x (m .line) (m .node) n l (eqb-true _ _ s))) (λ s. omega (arith, eqb-false (x .node) (m .node) s))
+      later-node l b = by-test (eqb (x .node) (m .node)) (λ s. absurd (not-both x (m .line) (m .node) n l (eqb-true _ _ s)))
+          (λ s. omega (arith, eqb-false (x .node) (m .node) s))
 
       later-line : m .line ≤ x .line → (x .line ≡ m .line → ⊥) → m .line < x .line
       later-line b differs = omega (arith, differs)

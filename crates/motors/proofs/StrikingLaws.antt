@@ -81,7 +81,8 @@ module _ (run : List Motor) (count line node : ℕ) where
     the-register-stays-sound =
         let l = without (held run count) line node in
         let few : length l ≤ 256 = omega (arith, one-place-is-given-back, done .number, sound-is run count (done .ok) .at-most-256) in
-        ap₂ soundOf (done .places) (done .number) ∙ is-sound l few (struck-in-order line node zeros (held run count) (sound-is run count (done .ok) .in-order))
+        ap₂ soundOf (done .places) (done .number) ∙ is-sound l few
+        (struck-in-order line node zeros (held run count) (sound-is run count (done .ok) .in-order))
 
   still-sound : (x : Answer) → after .answer ≡ x → soundOf run count ≡ true → soundOf (after .motors) (countAfter count x) ≡ true
   still-sound (Count n) e ok = the-register-stays-sound n e

@@ -72,7 +72,8 @@ module _ (n : Node) (g : Groups) (b : List ℕ) (t : Typed n) where
       every-turn n g b TurnFits
       (λ q. record { node-fits = t; change-fits = tt })
       (record { node-fits = t; change-fits = tt })
-      (λ s f m. answered-fits (cameTo n g b) (every-message-fits n t (dataOf b) (inverted-fits (take (dataCount b) (drop 9 b))) g (source b) (message b)))
+      (λ s f m. answered-fits (cameTo n g b)
+      (every-message-fits n t (dataOf b) (inverted-fits (take (dataCount b) (drop 9 b))) g (source b) (message b)))
 
 after-fits : (w : State) (i : Input) → Fits w → Fits (after w i)
 after-fits w (bundle b) f =

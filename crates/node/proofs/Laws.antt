@@ -49,7 +49,8 @@ module _ (n : Node) (g : Groups) (b : List ℕ) (s : sound n ≡ true) (f : IsFr
   request = headerOf b
 
   pub meant-is-carried-out : Meant (n .settings) g request → turnOf n g b ≡ answered (n .settings) request (cameTo n g b)
-  meant-is-carried-out m = by-reading n g b s ∙ carried-out n g b request (dataCount b) (frame-is-read b f) (meant-by-the-four (n .settings) g request m)
+  meant-is-carried-out m = by-reading n g b s ∙ carried-out n g b request (dataCount b) (frame-is-read b f)
+      (meant-by-the-four (n .settings) g request m)
 
   not-meant : ¬ Meant (n .settings) g request → meant (n .settings) g request ≡ false
   not-meant k = by (meant (n .settings) g request) (λ e. k (the-four-conditions (n .settings) g request e))
@@ -70,7 +71,8 @@ module _ (n : Node) (g : Groups) (b : List ℕ) (s : sound n ≡ true) (f : IsFr
   pub refused-by-a-code-leaves-all : Meant (n .settings) g request → (code : Code) → cameTo n g b ≡ refuses n code → Unchanged n (turnOf n g b)
   refused-by-a-code-leaves-all m code o =
       rw (meant-is-carried-out m, o)
-      (either (Unchanged n) (request .ack) (λ e. record { node-kept = refl; table-kept = refl }) (λ e. record { node-kept = refl; table-kept = refl }))
+      (either (Unchanged n) (request .ack) (λ e. record { node-kept = refl; table-kept = refl })
+      (λ e. record { node-kept = refl; table-kept = refl }))
 
 module _ (n : Node) (g : Groups) (b : List ℕ) where
   -- A reply message is never answered, whatever its ACK bit, and changes nothing.

@@ -54,8 +54,11 @@ module _ (s : Settings) (g : Groups) (h : Header) where
 
   sent : isSender (h .source) ≡ true → (h .source .0 ≢ 0x000000) × (h .source .0 ≢ 0xFFFFFF)
   sent e =
-      let b = both (not (eqb (h .source .0) 0x000000)) (not (eqb (h .source .0) 0xFFFFFF)) e in
-      (eqb-false (h .source .0) 0x000000 (not-true (eqb (h .source .0) 0x000000) (b .0)), eqb-false (h .source .0) 0xFFFFFF (not-true (eqb (h .source .0) 0xFFFFFF) (b .1)))
+      let b = both (not (eqb (h .source .0) 0x000000)) (not (eqb (h .source .0) 0xFFFFFF)) e in (
+        eqb-false (h .source .0) 0x000000 (not-true (eqb (h .source .0) 0x000000) (b .0)),
+        eqb-false (h .source .0) 0xFFFFFF
+            (not-true (eqb (h .source .0) 0xFFFFFF) (b .1)),
+      )
 
   sending : h .source .0 ≢ 0x000000 → h .source .0 ≢ 0xFFFFFF → isSender (h .source) ≡ true
   sending a b = rw (ne-eqb (h .source .0) 0x000000 a, ne-eqb (h .source .0) 0xFFFFFF b)
@@ -98,7 +101,8 @@ module _ (s : Settings) (g : Groups) (h : Header) where
   unfolding meant
   meant-by-the-four m =
       and-so (reaches (s .id) g (h .source) (h .destination)) rest (reaching (m .for-this-node))
-      (and-so (isSender (h .source)) (suits (s .kind) (h .receiver) && not (isReply (h .message))) (sending (m .from-a-sender .0) (m .from-a-sender .1))
+      (and-so (isSender (h .source)) (suits (s .kind) (h .receiver) && not (isReply (h .message)))
+      (sending (m .from-a-sender .0) (m .from-a-sender .1))
       (and-so (suits (s .kind) (h .receiver)) (not (isReply (h .message))) (suiting (m .of-its-type))
       (no-reply-is (m .no-reply) (isReply (h .message)) refl)))
 

@@ -3,3 +3,4 @@ pub mod Turn
 pub mod Replies
 pub mod Frames
 pub mod Histories
+pub mod Figures

@@ -50,6 +50,10 @@ replyHeader s h message =
       destination = h .source;
     }
 
+-- The header of what an outcome says.
+abbrev pub sayHeader : Settings → Header → Outcome → Header
+sayHeader s h o = replyHeader s h (messageOf (o .say))
+
 -- The place after a frame written at the start is its length.
 abbrev pub lengthOf : Writing → ℕ
 lengthOf (Next place) = place

@@ -13,7 +13,7 @@ ghost use Prim.Native.Nat.{_≤_};
 ghost use lib.ListN.{length};
 ghost use Rattle.frame.specs.Writing.{writingOf, bufferAfter};
 ghost use Rattle.messages.specs.Outcome.{contentOf};
-ghost use Rattle.node.specs.Replies.{isSaid, messageOf, replyHeader, answered};
+ghost use Rattle.node.specs.Replies.{isSaid, messageOf, replyHeader, sayHeader, answered};
 
 // The turn that an outcome leads to: a reply of 31 bytes of its own, where one is said.
 pub(crate) fn answered(settings: Settings, request: Header, outcome: Outcome) -> Turn
@@ -43,8 +43,8 @@ fn write_reply(
     outcome: Outcome,
 ) -> Writing
     requires { ⌜ outcome .count ≤ 20 ⌝ }
-    ensures { λ r. ⌜ r ≡ writingOf (length (now (buffer .entry))) place (replyHeader settings request (messageOf (outcome .say))) (contentOf outcome) ⌝ }
-    ensures { λ r. ⌜ now (buffer .exit) ≡ bufferAfter (now (buffer .entry)) place (replyHeader settings request (messageOf (outcome .say))) (contentOf outcome) ⌝ }
+    ensures { λ r. ⌜ r ≡ writingOf (length (now (buffer .entry))) place (sayHeader settings request outcome) (contentOf outcome) ⌝ }
+    ensures { λ r. ⌜ now (buffer .exit) ≡ bufferAfter (now (buffer .entry)) place (sayHeader settings request outcome) (contentOf outcome) ⌝ }
 {
     let say = outcome.say;
     let header = reply_header(settings, request, message_of(say));

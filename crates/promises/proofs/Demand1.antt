@@ -191,7 +191,8 @@ kept =
       power-up = λ n k. of-event (afterPowerUp n .verdict) k (λ q e. node-of (afterPowerUp n) n q (refused-power-up-changes-nothing n q e));
       on-frame = on-frame;
       file = λ run count line b k. of-register (filedOf run count line b .answer) k (a-refused-frame-changes-no-record run count line b);
-      strike-out = λ run count line node k. of-register (struckOf run count line node .answer) k (a-refused-striking-changes-no-record run count line node);
+      strike-out = λ run count line node k. of-register (struckOf run count line node .answer) k
+          (a-refused-striking-changes-no-record run count line node);
       read-form = λ run b k. of-register (readOf run b .answer) k (a-refused-form-leaves-the-run-as-it-was run b);
       write-form = λ run count buffer k. of-form (writtenOf run count (length buffer)) k (a-refused-writing-changes-no-byte run count buffer);
     }

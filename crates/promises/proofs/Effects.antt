@@ -95,8 +95,13 @@ module _ (n : Node) (g : Groups) (b : List ℕ) (a : Arrives n g b) where
   lock-set function m h f listed admitted =
       acted (lockedBy n (source b) function (byteAt content 1)) Keep
       (at-16 n g (source b) (message b) content m
-      ∙ set-lock-at n content 3 (source b)
-      (h, (ap (λ (k : ℕ). isIn k lockFunctions) f ∙ listed, (subst (λ (k : ℕ). (1 < k) ⊎ (admits (n .lock) (byteAt content 1) ≡ true)) (sym f) admitted, tt)))
+      ∙ set-lock-at n content 3 (source b) (
+        h,
+        (
+          ap (λ (k : ℕ). isIn k lockFunctions) f ∙ listed,
+          (subst (λ (k : ℕ). (1 < k) ⊎ (admits (n .lock) (byteAt content 1) ≡ true)) (sym f) admitted, tt),
+        ),
+      )
       ∙ ap (λ (k : ℕ). acts (lockedBy n (source b) k (byteAt content 1)) Keep) f) .0
 
   locking : message b ≡ 0x16 → 2 ≤ length content → byteAt content 0 ≡ 1 → (n .lock .locked ≡ true → n .lock .priority ≤ byteAt content 1)
@@ -124,7 +129,8 @@ module _ (n : Node) (g : Groups) (b : List ℕ) (a : Arrives n g b) where
   pub effects : Effects n g b
   effects =
       record {
-        a-running-motor-is-stopped = λ m h free target runs. stopped m h free ∙ ap (λ (motion : Motion). withDrive n (haltedFrom motion (n .drive))) runs;
+        a-running-motor-is-stopped = λ m h free target runs. stopped m h free ∙ ap
+            (λ (motion : Motion). withDrive n (haltedFrom motion (n .drive))) runs;
         a-motor-stopped-does-not-run =
             λ m h free. ap (λ (x : Node). x .drive .motion) (stopped m h free) ∙ halted-is-still (n .drive .motion) (n .drive) refl;
         a-motor-sent-elsewhere-runs-there =

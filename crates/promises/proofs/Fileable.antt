@@ -133,8 +133,11 @@ module _ (run : List Motor) (count line node : ℕ) where
 
   strikeable-is-struck : Strikeable run count line node → IsStruck (struckOf run count line node)
   strikeable-is-struck s =
-      let sound = sound-exactly-when run count .0 (s .sound-register) in
-      (length (without (held run count) line node), ap (λ (y : Next). y .answer) (struck-by run count line node 3 (sound, (s .on-line-0-to-3, (s .is-held, tt)))))
+      let sound = sound-exactly-when run count .0 (s .sound-register) in (
+        length (without (held run count) line node),
+        ap (λ (y : Next). y .answer)
+            (struck-by run count line node 3 (sound, (s .on-line-0-to-3, (s .is-held, tt)))),
+      )
 
   abbrev WasStrikeable : Next → Type 0
   WasStrikeable x = IsStruck x → Strikeable run count line node

@@ -33,7 +33,8 @@ as-before f i j x differs =
     by-test (isNumber j)
     (λ t.
     rw (s, t)
-    (ap (λ (y : Slot). y .ip) (getD-set-other (f .slots) (i .0 - 1) (j .0 - 1) (slot x) (slot Unset) (λ e. differs (omega (arith, e, from-1 i s, from-1 j t))))))
+    (ap (λ (y : Slot). y .ip)
+    (getD-set-other (f .slots) (i .0 - 1) (j .0 - 1) (slot x) (slot Unset) (λ e. differs (omega (arith, e, from-1 i s, from-1 j t))))))
     (λ t. rw t))
     (λ s. rw s)
 

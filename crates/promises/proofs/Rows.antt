@@ -125,7 +125,8 @@ ended r next = go (eqb (r .count) 0) refl (ltb 31 (r .count)) refl
     go : (t : Bool) → eqb (r .count) 0 ≡ t → (u : Bool) → ltb 31 (r .count) ≡ u → FirstOf (openRows r) (told (endedWith r next))
     go true t u v =
         let none = eqb-true (r .count) 0 t in
-        rw (ended-empty r next none) (passes (λ (h : 31 < r .count). omega arith) (case-fails (bundleRows (take (r .count) (r .kept))) (λ (some : r .count ≢ 0). some none) refl))
+        rw (ended-empty r next none)
+        (passes (λ (h : 31 < r .count). omega arith) (case-fails (bundleRows (take (r .count) (r .kept))) (λ (some : r .count ≢ 0). some none) refl))
     go false t true v =
         let h = ltb-true 31 (r .count) v in
         rw (ended-too-long r next (eqb-false (r .count) 0 t) h) (applies h)
@@ -166,7 +167,8 @@ run-number r (byte ∷ bytes) (silence ∷ silences) place s =
     (λ t. step-number r byte silence s)
 
 run : (r : Reader) (bytes silences : List ℕ) (place : ℕ) → length (r .kept) ≡ 31
-    → First (λ given. IsOneOf given (0 ∷ noFrame)) (9 when (brokenReader r) ∷ 7 when (length bytes ≢ length silences) ∷ 8 when (length bytes < place) ∷ [])
+    → First (λ given. IsOneOf given (0 ∷ noFrame))
+    (9 when (brokenReader r) ∷ 7 when (length bytes ≢ length silences) ∷ 8 when (length bytes < place) ∷ [])
     (toldByRun (ranOf r bytes silences place))
 unfolding ranOf
 run r bytes silences place n =
@@ -203,7 +205,8 @@ no-cause-so cause (a, (b, c)) = rw (ne-eqb cause 0x20 a, ne-eqb cause 0x21 b, ne
 module _ (n : Node) where
   at-pulse : (p : Pulse) → FirstOf (33 when (¬ BoardInRange n) ∷ 30 when (n .settings .travel .0 < p .0) ∷ []) (decided (afterPulse n p))
   unfolding afterPulse
-  at-pulse p = row decided (unless (sound n) (board.sound-exactly-when n)) (λ t. row decided (n .settings .travel .0 below p .0) (λ u. none-applies refl))
+  at-pulse p = row decided (unless (sound n) (board.sound-exactly-when n))
+      (λ t. row decided (n .settings .travel .0 below p .0) (λ u. none-applies refl))
 
   blocked : (cause : ℕ) → FirstOf (33 when (¬ BoardInRange n) ∷ 31 when (NoCause cause) ∷ []) (decided (afterBlocked n cause))
   unfolding afterBlocked
@@ -228,7 +231,8 @@ module _ (n : Node) where
 
   turned-as-read : (g : Groups) (b : List ℕ) (x : Reading) → turned (turnBy n g b x) ≡ readNumber x
   turned-as-read g b (Reading.Frame h count) =
-      either (λ (t : Turn). turned t ≡ 0) (meant (n .settings) g h) (λ e. answered-by-0 h (outcomeOf n g (h .source) (h .message) (dataOf b))) (λ e. refl)
+      either (λ (t : Turn). turned t ≡ 0) (meant (n .settings) g h) (λ e. answered-by-0 h (outcomeOf n g (h .source) (h .message) (dataOf b)))
+      (λ e. refl)
   turned-as-read g b (Reading.Refused q) = refl
 
   on-frame : (g : Groups) (b : List ℕ) → FirstOf (33 when (¬ BoardInRange n) ∷ bundleRows b) (turned (turnOf n g b))
@@ -245,7 +249,8 @@ unsound : (run : List Motor) (count : ℕ) → (soundOf run count ≡ false) ↔
 unsound run count = fails-exactly-when (soundOf run count) (sound-exactly-when run count)
 
 strike-out : (run : List Motor) (count line node : ℕ)
-    → FirstOf (19 when (¬ SoundRegister run count) ∷ 20 when (3 < line) ∷ 25 when (found run count line node ≡ none) ∷ []) (left (struckOf run count line node))
+    → FirstOf (19 when (¬ SoundRegister run count) ∷ 20 when (3 < line) ∷ 25 when (found run count line node ≡ none) ∷ [])
+    (left (struckOf run count line node))
 unfolding struckOf
 strike-out run count line node =
     let table = strikeTable run count line node in
@@ -273,7 +278,8 @@ module _ (run : List Motor) (count line : ℕ) (b : List ℕ) where
 
   entering : soundOf run count ≡ true → FirstOf (24 when FullRow ∷ []) (reportNumber (Seen shown))
   unfolding enteredOf
-  entering ok = retold (numbered left (enterTable run count shown)) (full ok) (first left (enterTable run count shown) (keeping (entered (held run count) shown)) refl)
+  entering ok = retold (numbered left (enterTable run count shown)) (full ok)
+      (first left (enterTable run count shown) (keeping (entered (held run count) shown)) refl)
 
   -- Rows 20 to 24, of a frame.
   abbrev reportRows : List Row

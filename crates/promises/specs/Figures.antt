@@ -3,8 +3,8 @@
 use mathlib.Core.List.{List, [], _∷_}
 use Rattle.frame.specs.Figures.{P1, P2, P3, P5, P6, P7}
 use Rattle.travel.specs.Figures.{P8, P9, P10}
-use Rattle.node.proofs.Figures.{P4}
-use Rattle.form.proofs.Figures.{P11}
+use Rattle.node.specs.Figures.{P4}
+use Rattle.form.specs.Figures.{P11}
 
 abbrev pub figures : List (Type 0)
 figures = P1 ∷ P2 ∷ P3 ∷ P4 ∷ P5 ∷ P6 ∷ P7 ∷ P8 ∷ P9 ∷ P10 ∷ P11 ∷ []

@@ -28,7 +28,8 @@ returns-3 c =
     let x = b .before .before .args in
     c .done .ensures
     ∙ ap done (c .before .with-drive .ensures ∙ ap (withDrive (x .node)) (c .before .before .at-pulse .ensures))
-    ∙ sym (pulse-at (x .node) 2 (x .pulse) (found-true (b .before .is-sound .ensures) (b .if1 .left), (c .before .before .before .before .if2 .left, tt)))
+    ∙ sym (pulse-at (x .node) 2 (x .pulse)
+    (found-true (b .before .is-sound .ensures) (b .if1 .left), (c .before .before .before .before .if2 .left, tt)))
 
 pub at-pulse-spec : {M : Type 1} → statement M
 at-pulse-spec =

@@ -21,7 +21,8 @@ returns-2 c =
     let b = k .before in
     let x = b .before .before .args in
     c .refused2 .ensures
-    ∙ sym (blocked-at (x .node) 1 (x .cause) (found-true (b .before .is-sound .ensures) (b .if1 .left), found-false (k .blocks2 .ensures) (c .before .if2 .taken)))
+    ∙ sym (blocked-at (x .node) 1 (x .cause)
+    (found-true (b .before .is-sound .ensures) (b .if1 .left), found-false (k .blocks2 .ensures) (c .before .if2 .taken)))
 
 returns-3 : tie.Need-returns-3
 returns-3 c =
@@ -30,7 +31,8 @@ returns-3 c =
     let x = b .before .before .args in
     c .done .ensures
     ∙ ap done (c .before .with-drive .ensures ∙ ap (withDrive (x .node)) (c .before .before .blocked-by .ensures))
-    ∙ sym (blocked-at (x .node) 2 (x .cause) (found-true (b .before .is-sound .ensures) (b .if1 .left), (found-true (k .blocks2 .ensures) (c .before .before .before .before .if2 .left), tt)))
+    ∙ sym (blocked-at (x .node) 2 (x .cause)
+    (found-true (b .before .is-sound .ensures) (b .if1 .left), (found-true (k .blocks2 .ensures) (c .before .before .before .before .if2 .left), tt)))
 
 pub blocked-spec : {M : Type 1} → statement M
 blocked-spec =

@@ -50,8 +50,11 @@ loop-again : tie.Need-loop-again Inv-loop μ-loop
 loop-again c =
     let s = c .before .before .before .before in
     let n = sixteen (s .before) in
-    let x = s .before .args in
-    (search needs, sym (miss (x .source) (x .t1) (s .loop .place) (omega arith) (sym (c .before .is-entry-of .ensures) ∙ c .if1 .left)) ∙ s .loop .inv .1)
+    let x = s .before .args in (
+      search needs,
+      sym (miss (x .source) (x .t1) (s .loop .place) (omega arith) (sym (c .before .is-entry-of .ensures) ∙ c .if1 .left))
+          ∙ s .loop .inv .1,
+    )
 
 returns-2 : tie.Need-returns-2 Inv-loop μ-loop
 returns-2 c =

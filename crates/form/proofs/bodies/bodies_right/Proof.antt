@@ -13,7 +13,8 @@ use Rattle.form.proofs.bodies.bodies_right.Statement.{statement}
 use Rattle.form.proofs.bodies.bodies_right.Tie as tie
 
 abbrev Inv-loop : tie.InvT-loop
-Inv-loop bytes count i₀ i = (i ≤ count) × (bodiesRight (count - i) (drop (3 + 6 * count + 5 * i) bytes) ≡ bodiesRight count (drop (3 + 6 * count) bytes))
+Inv-loop bytes count i₀ i = (i ≤ count) ×
+    (bodiesRight (count - i) (drop (3 + 6 * count + 5 * i) bytes) ≡ bodiesRight count (drop (3 + 6 * count) bytes))
 
 abbrev μ-loop : tie.MeasureT-loop
 μ-loop bytes count i₀ i = count - i

@@ -13,7 +13,14 @@ returns c = let x = c .before .before .before .before .args in
     motor-unread (x .bytes .now) (x .at) (x .body) (read .result) (read .ensures) (c .if1 .taken)
 
 cast-pulse : tie.Need-cast-pulse
-cast-pulse c = omega (arith, c .pair .ensures, c .before .shared-slice-known4 .given (c .before .before .before .before .before .before .before .args .body + 2), c .before .before .shared-slice-known3 .given (c .before .before .before .before .before .before .before .args .body + 1))
+cast-pulse c = omega (
+  arith,
+  c .pair .ensures,
+  c .before .shared-slice-known4 .given
+      (c .before .before .before .before .before .before .before .args .body + 2),
+  c .before .before .shared-slice-known3 .given
+      (c .before .before .before .before .before .before .before .args .body + 1),
+)
 
 returns-2 : tie.Need-returns-2
 returns-2 c = let x = c .before .before .before .before .before .before .before .before .before .args in

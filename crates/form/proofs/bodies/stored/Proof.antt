@@ -31,7 +31,8 @@ loop-again c = let k = c .before .before in
     let x = s .args in (
       omega arith,
       edit-more (k .loop .i) (k .loop .all) _ (k .loop .inv .1) (omega (arith, s .pre .0))
-          (next-motor (x .bytes .now) (3 + 6 * x .count) (x .count) (s .pre .0) (k .loop .i) (c .before .loop-test .taken) (c .motor .result) (c .motor .ensures)),
+          (next-motor (x .bytes .now) (3 + 6 * x .count) (x .count) (s .pre .0) (k .loop .i) (c .before .loop-test .taken) (c .motor .result)
+          (c .motor .ensures)),
     )
 
 returns : tie.Need-returns Inv-loop μ-loop

@@ -38,7 +38,8 @@ loop-again c = let k = c .before .before .before .before in
     let x = k .before .before .before .args in
     let i = k .loop .i in (
       omega arith,
-      ap (λ (m : Motor). contentsRight m (3 + 6 * x .count + 5 * (i + 1)) (x .count - (i + 1)) (drop (3 + 6 * (i + 1)) (x .bytes .now))) (c .entry .ensures)
+      ap (λ (m : Motor). contentsRight m (3 + 6 * x .count + 5 * (i + 1)) (x .count - (i + 1)) (drop (3 + 6 * (i + 1)) (x .bytes .now)))
+          (c .entry .ensures)
           ∙ sym (contents-on (x .bytes .now) (3 + 6 * x .count) (x .count) i (c .before .before .before .loop-test .taken) (k .loop .previous)
           (sym (c .before .before .entry-right .ensures) ∙ not-false _ (c .before .if1 .left)))
           ∙ k .loop .inv .1,
@@ -48,7 +49,8 @@ returns-2 : tie.Need-returns-2 Inv-loop μ-loop
 returns-2 c = let k = c .before in
     let x = k .before .before .before .args in
     let i = k .loop .i in
-    sym (sym (k .loop .inv .1) ∙ contents-end (x .count) i (c .loop-test .left) (k .loop .previous) (3 + 6 * x .count + 5 * i) (drop (3 + 6 * i) (x .bytes .now)))
+    sym (sym (k .loop .inv .1) ∙ contents-end (x .count) i (c .loop-test .left) (k .loop .previous) (3 + 6 * x .count + 5 * i)
+    (drop (3 + 6 * i) (x .bytes .now)))
 
 pub contents-right-spec : {M : Type 1} → statement M
 contents-right-spec =

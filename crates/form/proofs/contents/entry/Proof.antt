@@ -7,7 +7,8 @@ use Rattle.form.proofs.contents.entry.Tie as tie
 
 returns : tie.Need-returns
 returns c = let x = c .before .before .before .before .before .before .before .args in
-    entry-read (x .bytes .now) (x .at) (c .before .before .from-bytes .result) (c .unread .result) (c .before .before .from-bytes .ensures) (c .unread .ensures)
+    entry-read (x .bytes .now) (x .at) (c .before .before .from-bytes .result) (c .unread .result) (c .before .before .from-bytes .ensures)
+    (c .unread .ensures)
 
 pub entry-spec : {M : Type 1} → statement M
 entry-spec =

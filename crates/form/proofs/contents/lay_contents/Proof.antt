@@ -14,7 +14,8 @@ use Rattle.form.proofs.contents.lay_contents.Statement.{statement}
 use Rattle.form.proofs.contents.lay_contents.Tie as tie
 
 abbrev Inv-loop : tie.InvT-loop
-Inv-loop part₀ count all i₀ part i = (i ≤ count) × (length part ≡ length part₀) × (part ≡ over (contentsOf (3 + 6 * count) (take i (take count all))) part₀)
+Inv-loop part₀ count all i₀ part i = (i ≤ count) × (length part ≡ length part₀) ×
+    (part ≡ over (contentsOf (3 + 6 * count) (take i (take count all))) part₀)
 
 abbrev μ-loop : tie.MeasureT-loop
 μ-loop part₀ count all i₀ part i = count - i
@@ -30,7 +31,8 @@ loop-again c = let k = c .before .before .before .before .before .before .before
     let full : length (x .t2) ≡ 256 = search needs in
     let on = entry-laid (x .t2) (x .count) (k .loop .i) full (s .pre .0) (c .before .before .before .before .before .before .before .loop-test .taken)
     (x .part .now) (k .loop .part) (c .before .before .put .last .0) (c .before .before .before .before .before .entry-bytes .result)
-    (3 + 6 * x .count) (s .pre .1) (c .before .before .before .before .before .entry-bytes .ensures) (k .loop .inv .2) (c .before .before .put .ensures) in
+    (3 + 6 * x .count) (s .pre .1) (c .before .before .before .before .before .entry-bytes .ensures) (k .loop .inv .2)
+    (c .before .before .put .ensures) in
     (omega arith, on .0, on .1)
 
 returns : tie.Need-returns Inv-loop μ-loop

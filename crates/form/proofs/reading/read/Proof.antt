@@ -41,7 +41,8 @@ returns-6 : tie.Need-returns-6
 returns-6 c =
     let x = c .before .before .before .before .before .before .before .before .before .before .before .before .before .before .args in
     let read = c .before .before .before .before .before .before .before .pair .ensures in
-    let contents = rw read at (sym (c .before .before .before .before .contents-right .ensures) ∙ not-false _ (c .before .before .before .if5 .left)) in
+    let contents = rw read at
+    (sym (c .before .before .before .before .contents-right .ensures) ∙ not-false _ (c .before .before .before .if5 .left)) in
     let bodies = rw read at (sym (c .before .before .bodies-right .ensures) ∙ not-true _ (c .before .if6 .taken)) in
     c .refused6 .ensures ∙ read-by (x .all) (x .bytes .now) 5 (search needs, (search needs, (search needs, (search needs, (contents, bodies)))))
 
@@ -50,7 +51,8 @@ returns-7 c =
     let x = c .before .before .before .before .before .before .before .before .before .before .before .before .before .before .args in
     let count = c .before .before .before .before .before .before .before .pair .result in
     let read = c .before .before .before .before .before .before .before .pair .ensures in
-    let contents = rw read at (sym (c .before .before .before .before .contents-right .ensures) ∙ not-false _ (c .before .before .before .if5 .left)) in
+    let contents = rw read at
+    (sym (c .before .before .before .before .contents-right .ensures) ∙ not-false _ (c .before .before .before .if5 .left)) in
     let bodies = rw read at (sym (c .before .before .bodies-right .ensures) ∙ not-false _ (c .before .if6 .left)) in
     as-stored count (drop 3 (x .bytes .now)) (drop (3 + 6 * count) (x .bytes .now)) (c .stored .result) (c .stored .ensures)
     ∙ rw read (read-by (x .all) (x .bytes .now) 6 (search needs, (search needs, (search needs, (search needs, (contents, (bodies, tt)))))))

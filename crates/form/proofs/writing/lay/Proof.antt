@@ -18,7 +18,8 @@ returns c = let contents = c .before .before .before .before .before .before in
     let x = s .args in
     let full : length (x .all) ≡ 256 = search needs in
     form-laid (x .buffer .now) (take (x .count) (x .all)) (x .count) (simp length-take (omega (arith, s .pre .0))) (s .pre .1)
-    (1 ∷ high .before .low .result ∷ high .high .result ∷ []) (put .put .last .0) (contents .lay-contents .last .0) (c .before .before .lay-bodies .last .0)
+    (1 ∷ high .before .low .result ∷ high .high .result ∷ []) (put .put .last .0) (contents .lay-contents .last .0)
+    (c .before .before .lay-bodies .last .0)
     (ap₂ (λ (a b : ℕ). 1 ∷ a ∷ b ∷ []) (high .before .low .ensures) (high .high .ensures))
     (put .put .ensures) (contents .lay-contents .ensures) (c .before .before .lay-bodies .ensures)
 

@@ -26,13 +26,17 @@ sum-requires : tie.Need-sum-requires
 sum-requires c κs = simp length-take (omega arith)
 
 returns-5 : tie.Need-returns-5
-returns-5 c = read-by (c .before .before .before .before .before .before .before .before .before .before .before .before .args .bundle .now) 4 (search needs)
+returns-5 c = read-by (c .before .before .before .before .before .before .before .before .before .before .before .before .args .bundle .now) 4
+    (search needs)
 
 returns-6 : tie.Need-returns-6
-returns-6 c = read-by (c .before .before .before .before .before .before .before .before .before .before .before .before .before .before .args .bundle .now) 5 (search needs)
+returns-6 c = read-by
+    (c .before .before .before .before .before .before .before .before .before .before .before .before .before .before .args .bundle .now) 5
+    (search needs)
 
 returns-7 : tie.Need-returns-7
-returns-7 c = rw (c .header .ensures) (read-by (c .before .before .before .before .before .before .before .before .before .before .before .before .before .before .before .args .bundle .now) 6 (search needs))
+returns-7 c = rw (c .header .ensures)
+    (read-by (c .before .before .before .before .before .before .before .before .before .before .before .before .before .before .before .args .bundle .now) 6 (search needs))
 
 pub read-spec : {M : Type 1} → statement M
 read-spec =

@@ -43,7 +43,8 @@ returns c =
     let laid-data = c .before .before .before .before .before .before .before .before in
     let laid-header = laid-data .before .before .before .before in
     let x = laid-header .before .before .before .before .before .before .args in
-    let header = laid-header .lay-inverted .ensures ∙ ap (λ (r : List ℕ). over (map inverted r) (x .part .now)) (laid-header .before .before .before .raw-header .ensures) in
+    let header = laid-header .lay-inverted .ensures ∙ ap (λ (r : List ℕ). over (map inverted r) (x .part .now))
+    (laid-header .before .before .before .raw-header .ensures) in
     let first = laid-header .lay-inverted .last .0 in
     let second = laid-data .lay-inverted2 .last .0 in
     sealing (x .header) (x .content .now) (x .part .now) (omega arith)

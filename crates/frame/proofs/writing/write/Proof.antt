@@ -52,8 +52,11 @@ returns-8 c =
 returns-9 : tie.Need-returns-9
 returns-9 c =
     let x = c .before .before .before .before .before .before .before .before .before .before .before .before .before .before .before .before .before .before .before .args in
-    let e = written-by (x .buffer .now) (x .place) (x .header) (x .content .now) 5 (search needs) in
-    (e .0, lent-on (x .buffer .now) (frameOf (x .header) (x .content .now)) (c .before .before .lay .last .0) (x .place) (c .before .before .lay .ensures) ∙ e .1)
+    let e = written-by (x .buffer .now) (x .place) (x .header) (x .content .now) 5 (search needs) in (
+      e .0,
+      lent-on (x .buffer .now) (frameOf (x .header) (x .content .now)) (c .before .before .lay .last .0) (x .place)
+          (c .before .before .lay .ensures) ∙ e .1,
+    )
 
 pub write-spec : {M : Type 1} → statement M
 write-spec =

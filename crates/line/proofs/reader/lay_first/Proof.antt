@@ -23,8 +23,11 @@ loop-holds c = let e : c .args .at + 0 ≡ c .args .at = omega arith in (omega a
 loop-again : tie.Need-loop-again Inv-loop μ-loop
 loop-again c =
     let l = c .before .before in
-    let x = l .before .args in
-    (omega arith, one-laid (reader (x .kept .now) (x .at)) (x .part .now) (l .loop .kept) (x .at) (l .loop .i) (omega arith) (omega arith) (l .loop .inv .1))
+    let x = l .before .args in (
+      omega arith,
+      one-laid (reader (x .kept .now) (x .at)) (x .part .now) (l .loop .kept) (x .at) (l .loop .i) (omega arith) (omega arith)
+          (l .loop .inv .1),
+    )
 
 returns : tie.Need-returns Inv-loop μ-loop
 returns c =

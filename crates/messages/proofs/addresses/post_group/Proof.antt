@@ -33,7 +33,8 @@ returns-3 c =
     let i = c .before .before .before in
     let x = i .before .before .before .before .args in
     c .posts .ensures ∙ ap (λ (k : ℕ). posts (x .node) 0x61 (groupData (x .t2) k)) (i .data-byte .ensures)
-    ∙ sym (group-at (x .node) (dataOf (x .bundle .now)) 2 (x .t2) (one i, (subst (λ (k : ℕ). k ≤ 15) (i .data-byte .ensures) (c .before .before .if2 .left), tt)))
+    ∙ sym (group-at (x .node) (dataOf (x .bundle .now)) 2 (x .t2)
+    (one i, (subst (λ (k : ℕ). k ≤ 15) (i .data-byte .ensures) (c .before .before .if2 .left), tt)))
 
 pub post-group-spec : {M : Type 1} → statement M
 post-group-spec =

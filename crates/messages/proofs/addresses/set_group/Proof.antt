@@ -41,7 +41,8 @@ returns-3 c =
     let n = i .before .before .before .before .args .node in
     let d = dataOf (i .before .before .before .before .args .bundle .now) in
     c .acts .ensures
-    ∙ spelled n d (i .data-byte .result) (c .before .before .before .data-byte2 .result) (c .before .before .data-byte3 .result) (c .before .data-byte4 .result)
+    ∙ spelled n d (i .data-byte .result) (c .before .before .before .data-byte2 .result) (c .before .before .data-byte3 .result)
+    (c .before .data-byte4 .result)
     (i .data-byte .ensures) (c .before .before .before .data-byte2 .ensures) (c .before .before .data-byte3 .ensures) (c .before .data-byte4 .ensures)
     ∙ sym (set-group-at n d 2 (four i, (subst (λ (k : ℕ). k ≤ 15) (i .data-byte .ensures) (c .before .before .before .before .if2 .left), tt)))
 

@@ -34,19 +34,22 @@ returns-5 : tie.Need-returns-5
 returns-5 c =
     let i = c .before .before .before .before .before in
     let x = i .before .before .args in
-    sym (percent-beyond (x .function) (x .index) (x .value) (found-true (i .is-number .ensures) (c .before .before .before .before .if2 .left)) (c .before .if5 .taken) (c .if6 .taken))
+    sym (percent-beyond (x .function) (x .index) (x .value) (found-true (i .is-number .ensures) (c .before .before .before .before .if2 .left))
+    (c .before .if5 .taken) (c .if6 .taken))
 
 returns-6 : tie.Need-returns-6
 returns-6 c =
     let i = c .before .before .before .before .before in
     let x = i .before .before .args in
-    sym (percent-at (x .function) (x .index) (x .value) (found-true (i .is-number .ensures) (c .before .before .before .before .if2 .left)) (c .before .if5 .taken) (c .if6 .left))
+    sym (percent-at (x .function) (x .index) (x .value) (found-true (i .is-number .ensures) (c .before .before .before .before .if2 .left))
+    (c .before .if5 .taken) (c .if6 .left))
 
 returns-7 : tie.Need-returns-7
 returns-7 c =
     let i = c .before .before .before .before in
     let x = i .before .before .args in
-    sym (no-order (x .function) (x .index) (x .value) (i .before .if1 .left) (found-true (i .is-number .ensures) (c .before .before .before .if2 .left)) (c .before .before .if3 .left) (c .before .if4 .left) (c .if5 .left))
+    sym (no-order (x .function) (x .index) (x .value) (i .before .if1 .left)
+    (found-true (i .is-number .ensures) (c .before .before .before .if2 .left)) (c .before .before .if3 .left) (c .before .if4 .left) (c .if5 .left))
 
 pub order-of-spec : {M : Type 1} → statement M
 order-of-spec =

@@ -10,10 +10,12 @@ use Rattle.messages.proofs.favourites.ordered.Statement.{statement}
 use Rattle.messages.proofs.favourites.ordered.Tie as tie
 
 returns : tie.Need-returns
-returns c = c .with-ip .ensures ∙ sym (ap (ordered (c .before .before .before .before .before .before .before .args .node)) (c .before .before .order .given .1))
+returns c = c .with-ip .ensures ∙ sym
+    (ap (ordered (c .before .before .before .before .before .before .before .args .node)) (c .before .before .order .given .1))
 
 returns-2 : tie.Need-returns-2
-returns-2 c = c .with-ip2 .ensures ∙ sym (ap (ordered (c .before .before .before .before .before .before .before .args .node)) (c .before .before .order2 .given .1))
+returns-2 c = c .with-ip2 .ensures ∙ sym
+    (ap (ordered (c .before .before .before .before .before .before .before .args .node)) (c .before .before .order2 .given .1))
 
 returns-3 : tie.Need-returns-3
 returns-3 c =
@@ -23,7 +25,8 @@ returns-3 c =
     ∙ sym (ap (ordered n) (o .order3 .given .1))
 
 returns-4 : tie.Need-returns-4
-returns-4 c = c .shared-out .ensures ∙ sym (ap (ordered (c .before .before .before .before .before .before .before .args .node)) (c .before .before .order4 .given .1))
+returns-4 c = c .shared-out .ensures ∙ sym
+    (ap (ordered (c .before .before .before .before .before .before .before .args .node)) (c .before .before .order4 .given .1))
 
 pub ordered-spec : {M : Type 1} → statement M
 ordered-spec =

@@ -18,7 +18,8 @@ use Rattle.messages.proofs.favourites.post_ip.Statement.{statement}
 use Rattle.messages.proofs.favourites.post_ip.Tie as tie
 
 one : (c : tie.After-is-number) → 1 ≤ length (dataOf (c .before .before .before .before .before .args .bundle .now))
-one c = enough 1 (dataOf (c .before .before .before .before .before .args .bundle .now)) (c .before .before .before .holds .ensures) (c .before .before .if1 .left)
+one c = enough 1 (dataOf (c .before .before .before .before .before .args .bundle .now)) (c .before .before .before .holds .ensures)
+    (c .before .before .if1 .left)
 
 numbered : (c : tie.After-is-number)
     → c .is-number .result ≡ isNumber (ip (byteAt (dataOf (c .before .before .before .before .before .args .bundle .now)) 0))

@@ -24,8 +24,15 @@ spelled : (d : List ℕ) (function index value : ℕ) → function ≡ byteAt d 
     → orderOf function (ip index) value ≡ orderIn d
 spelled d function index value f i v = rw (f, i, v)
 
+-- Where the function was entered.
+abbrev entered : tie.After-order-of → tie.Start
+entered c = c .before .before .before .before .before .before .before .before .before
+
+abbrev content : tie.Start → List ℕ
+content s = dataOf (s .args .bundle .now)
+
 order : (c : tie.After-order-of)
-    → c .order-of .result ≡ orderIn (dataOf (c .before .before .before .before .before .before .before .before .before .args .bundle .now))
+    → c .order-of .result ≡ orderIn (content (entered c))
 order c =
     let word = c .before .before .before in
     let d = dataOf (word .before .before .before .before .before .before .args .bundle .now) in
@@ -35,18 +42,20 @@ order c =
     (c .before .data-byte4 .ensures)
     (word .word .ensures ∙ ap₂ (λ (low high : ℕ). low + 256 * high) (word .before .before .data-byte .ensures) (word .before .data-byte2 .ensures))
 
-four : (c : tie.After-order-of) → 4 ≤ length (dataOf (c .before .before .before .before .before .before .before .before .before .args .bundle .now))
-four c = enough 4 (dataOf (c .before .before .before .before .before .before .before .before .before .args .bundle .now)) (c .before .before .before .before .before .before .before .holds .ensures) (c .before .before .before .before .before .before .if1 .left)
+four : (c : tie.After-order-of) → 4 ≤ length (content (entered c))
+four c = enough 4 (content (entered c)) (c .before .before .before .before .before .before .before .holds .ensures)
+    (c .before .before .before .before .before .before .if1 .left)
 
 is-one : (c : tie.After-is-order)
     → c .is-order .result
-    ≡ isOrder (orderIn (dataOf (c .before .before .before .before .before .before .before .before .before .before .args .bundle .now)))
+    ≡ isOrder (orderIn (content (entered (c .before))))
 is-one c = c .is-order .ensures ∙ ap isOrder (order (c .before))
 
 finds : (c : tie.After-finds-its-ip)
-    → let x = c .before .before .before .before .before .before .before .before .before .before .before .before .before .args in
+    → let x = entered (c .before .before .before .before) .args in
     c .finds-its-ip .result ≡ findsItsIp (x .node .favourites) (orderIn (dataOf (x .bundle .now)))
-finds c = c .finds-its-ip .ensures ∙ ap (findsItsIp (c .before .before .before .before .before .before .before .before .before .before .before .before .before .args .node .favourites)) (order (c .before .before .before .before))
+finds c = c .finds-its-ip .ensures ∙ ap (findsItsIp (entered (c .before .before .before .before) .args .node .favourites))
+    (order (c .before .before .before .before))
 
 returns : tie.Need-returns
 returns c =
@@ -78,7 +87,8 @@ returns-4 c =
     let x = i .before .before .before .before .before .before .before .before .before .before .args in
     c .acts .ensures
     ∙ ap (λ (n : Node). acts n Keep)
-    (c .before .with-favourites .ensures ∙ ap (λ (l : Favourites). withFavourites (x .node) l) (c .before .before .ordered .ensures ∙ ap (ordered (x .node)) (order (i .before))))
+    (c .before .with-favourites .ensures ∙ ap (λ (l : Favourites). withFavourites (x .node) l)
+    (c .before .before .ordered .ensures ∙ ap (ordered (x .node)) (order (i .before))))
     ∙ sym (set-ip-at (x .node) (dataOf (x .bundle .now)) 3
     (four (i .before), (found-true (is-one i) (f .before .before .if2 .left), (found-true (finds f) (c .before .before .before .if3 .left), tt))))
 

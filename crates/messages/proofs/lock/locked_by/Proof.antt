@@ -27,7 +27,8 @@ returns-2 : tie.Need-returns-2
 returns-2 c =
     let x = c .before .before .before .before .before .before .before .args in
     c .with-lock2 .ensures
-    ∙ ap₂ withLock (c .before .before .with-drive .ensures ∙ ap (withDrive (x .node)) (c .before .before .before .halted .ensures)) (c .before .locked .ensures)
+    ∙ ap₂ withLock (c .before .before .with-drive .ensures ∙ ap (withDrive (x .node)) (c .before .before .before .halted .ensures))
+    (c .before .locked .ensures)
     ∙ sym (ap (λ (f : ℕ). lockedBy (x .node) (x .source) f (x .priority)) (c .before .before .before .before .match .keys2))
 
 returns-3 : tie.Need-returns-3

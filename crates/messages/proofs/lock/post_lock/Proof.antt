@@ -24,7 +24,8 @@ returns c =
     let n = c .before .before .before .before .before .args .node in
     c .posts .ensures
     ∙ ap (λ (d : List ℕ). posts n 0x36 d)
-    (lock-data n (c .before .before .bit .result) (c .before .bit2 .result) (c .before .before .before .to-bytes .result) (c .before .before .bit .ensures) (c .before .bit2 .ensures) (c .before .before .before .to-bytes .ensures))
+    (lock-data n (c .before .before .bit .result) (c .before .bit2 .result) (c .before .before .before .to-bytes .result)
+    (c .before .before .bit .ensures) (c .before .bit2 .ensures) (c .before .before .before .to-bytes .ensures))
 
 pub post-lock-spec : {M : Type 1} → statement M
 post-lock-spec =

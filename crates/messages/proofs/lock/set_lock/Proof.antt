@@ -2,7 +2,8 @@
 -- Assumes nothing.
 use borrow.Author.Needs.{needs}
 use mathlib.Core.Path.{_≡_, _∙_, sym, ap, ap₂}
-use mathlib.Core.Bool.{Bool, not, _&&_}
+use mathlib.Core.Bool.{not, _&&_}
+use mathlib.Core.List.{List}
 use Prim.Native.Nat.{ℕ, _≤_}
 use lib.Dec.{leb}
 use lib.ListN.{length}
@@ -20,21 +21,29 @@ use Rattle.messages.proofs.Rows.{too-little, enough, set-lock-at}
 use Rattle.messages.proofs.lock.set_lock.Statement.{statement}
 use Rattle.messages.proofs.lock.set_lock.Tie as tie
 
-two : (c : tie.After-is-function) → 2 ≤ length (dataOf (c .before .before .before .before .before .before .args .bundle .now))
-two c = enough 2 (dataOf (c .before .before .before .before .before .before .args .bundle .now)) (c .before .before .before .before .holds .ensures) (c .before .before .before .if1 .left)
+-- Where the function was entered.
+abbrev entered : tie.After-is-function → tie.Start
+entered c = c .before .before .before .before .before .before
+
+abbrev content : tie.Start → List ℕ
+content s = dataOf (s .args .bundle .now)
+
+two : (c : tie.After-is-function) → 2 ≤ length (content (entered c))
+two c = enough 2 (content (entered c)) (c .before .before .before .before .holds .ensures) (c .before .before .before .if1 .left)
 
 listed : (c : tie.After-is-function)
-    → c .is-function .result ≡ isIn (byteAt (dataOf (c .before .before .before .before .before .before .args .bundle .now)) 0) lockFunctions
+    → c .is-function .result ≡ isIn (byteAt (content (entered c)) 0) lockFunctions
 listed c = c .is-function .ensures ∙ ap (λ (f : ℕ). isIn f lockFunctions) (c .before .before .data-byte .ensures)
 
 outranked : (c : tie.After-is-outranked)
-    → let x = c .before .before .before .before .before .before .before .before .before .args in
+    → let x = entered (c .before .before .before) .args in
     let d = dataOf (x .bundle .now) in
     c .is-outranked .result ≡ (leb (byteAt d 0) 1 && not (admits (x .node .lock) (byteAt d 1)))
 outranked c =
     let f = c .before .before .before in
     c .is-outranked .ensures
-    ∙ ap₂ (λ (function priority : ℕ). leb function 1 && not (admits (c .before .before .before .before .before .before .before .before .before .args .node .lock) priority)) (f .before .before .data-byte .ensures) (f .before .data-byte2 .ensures)
+    ∙ ap₂ (λ (function priority : ℕ). leb function 1 && not (admits (entered f .args .node .lock) priority)) (f .before .before .data-byte .ensures)
+    (f .before .data-byte2 .ensures)
 
 returns : tie.Need-returns
 returns c =
@@ -58,7 +67,8 @@ returns-3 c =
     let d = dataOf (x .bundle .now) in
     let low = (byteAt d 0 at-most 1) and (fails (admits (x .node .lock) (byteAt d 1))) in
     c .refuses3 .ensures
-    ∙ sym (set-lock-at (x .node) d 2 (x .source) (two i, (found-true (listed i) (o .before .before .if2 .left), low .is-fact (sym (outranked o) ∙ c .before .if3 .taken))))
+    ∙ sym (set-lock-at (x .node) d 2 (x .source)
+    (two i, (found-true (listed i) (o .before .before .if2 .left), low .is-fact (sym (outranked o) ∙ c .before .if3 .taken))))
 
 returns-4 : tie.Need-returns-4
 returns-4 c =
@@ -69,7 +79,8 @@ returns-4 c =
     let low = (byteAt d 0 at-most 1) and (fails (admits (x .node .lock) (byteAt d 1))) in
     c .acts .ensures
     ∙ ap (λ (n : Node). acts n Keep)
-    (c .before .locked-by .ensures ∙ ap₂ (λ (function priority : ℕ). lockedBy (x .node) (x .source) function priority) (i .before .before .data-byte .ensures) (i .before .data-byte2 .ensures))
+    (c .before .locked-by .ensures ∙ ap₂ (λ (function priority : ℕ). lockedBy (x .node) (x .source) function priority)
+    (i .before .before .data-byte .ensures) (i .before .data-byte2 .ensures))
     ∙ sym (set-lock-at (x .node) d 3 (x .source)
     (two i, (found-true (listed i) (o .before .before .if2 .left), (low .is-other (sym (outranked o) ∙ c .before .before .if3 .left), tt))))
 

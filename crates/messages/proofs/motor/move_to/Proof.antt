@@ -2,7 +2,7 @@
 -- Assumes nothing.
 use borrow.Author.Needs.{needs}
 use mathlib.Core.Path.{_≡_, _∙_, sym, ap, ap₂}
-use mathlib.Core.Bool.{true, false}
+use mathlib.Core.List.{List}
 use Prim.Native.Nat.{ℕ, _+_, _*_, _≤_}
 use lib.ListN.{length}
 use Rattle.meaning.specs.Chosen.{found-false, found-true}
@@ -19,24 +19,34 @@ use Rattle.messages.proofs.Rows.{too-little, enough, move-at}
 use Rattle.messages.proofs.motor.move_to.Statement.{statement}
 use Rattle.messages.proofs.motor.move_to.Tie as tie
 
+-- Where the function was entered.
+abbrev entered : tie.After-aim-of → tie.Start
+entered c = c .before .before .before .before .before .before .before .before
+
+abbrev content : tie.Start → List ℕ
+content s = dataOf (s .args .bundle .now)
+
 aimed : (c : tie.After-aim-of)
-    → c .aim-of .result ≡ aimIn (dataOf (c .before .before .before .before .before .before .before .before .args .bundle .now))
+    → c .aim-of .result ≡ aimIn (content (entered c))
 aimed c =
     let word = c .before .before in
     c .aim-of .ensures
-    ∙ ap₂ aimOf (c .before .data-byte3 .ensures) (word .word .ensures ∙ ap₂ (λ (low high : ℕ). low + 256 * high) (word .before .before .data-byte .ensures) (word .before .data-byte2 .ensures))
+    ∙ ap₂ aimOf (c .before .data-byte3 .ensures)
+    (word .word .ensures ∙ ap₂ (λ (low high : ℕ). low + 256 * high) (word .before .before .data-byte .ensures) (word .before .data-byte2 .ensures))
 
-four : (c : tie.After-aim-of) → 4 ≤ length (dataOf (c .before .before .before .before .before .before .before .before .args .bundle .now))
-four c = enough 4 (dataOf (c .before .before .before .before .before .before .before .before .args .bundle .now)) (c .before .before .before .before .before .before .holds .ensures) (c .before .before .before .before .before .if1 .left)
+four : (c : tie.After-aim-of) → 4 ≤ length (content (entered c))
+four c = enough 4 (content (entered c)) (c .before .before .before .before .before .before .holds .ensures)
+    (c .before .before .before .before .before .if1 .left)
 
 aims : (c : tie.After-is-aim)
-    → isAim (aimIn (dataOf (c .before .before .before .before .before .before .before .before .before .args .bundle .now))) ≡ c .is-aim .result
+    → isAim (aimIn (content (entered (c .before)))) ≡ c .is-aim .result
 aims c = sym (c .is-aim .ensures ∙ ap isAim (aimed (c .before)))
 
 targets : (c : tie.After-target-of)
-    → let x = c .before .before .before .before .before .before .before .before .before .before .before .before .before .args in
+    → let x = entered (c .before .before .before .before .before) .args in
     targetOf (x .node) (aimIn (dataOf (x .bundle .now))) ≡ c .target-of .result
-targets c = sym (c .target-of .ensures ∙ ap (targetOf (c .before .before .before .before .before .before .before .before .before .before .before .before .before .args .node)) (aimed (c .before .before .before .before .before)))
+targets c = sym (c .target-of .ensures ∙ ap (targetOf (entered (c .before .before .before .before .before) .args .node))
+    (aimed (c .before .before .before .before .before)))
 
 returns : tie.Need-returns
 returns c =
@@ -56,7 +66,8 @@ returns-3 c =
     let i = c .before .before .before in
     let x = i .before .before .before .before .before .before .before .before .before .args in
     c .refuses3 .ensures
-    ∙ sym (move-at (x .node) (dataOf (x .bundle .now)) 2 (four (i .before), (found-true (sym (aims i)) (c .before .before .if2 .left), c .before .if3 .taken)))
+    ∙ sym (move-at (x .node) (dataOf (x .bundle .now)) 2
+    (four (i .before), (found-true (sym (aims i)) (c .before .before .if2 .left), c .before .if3 .taken)))
 
 returns-4 : tie.Need-returns-4
 returns-4 c =
@@ -72,8 +83,13 @@ returns-5 c =
     let i = t .before .before .before .before in
     let x = i .before .before .before .before .before .before .before .before .before .args in
     c .refuses5 .ensures
-    ∙ sym (move-at (x .node) (dataOf (x .bundle .now)) 4
-    (four (i .before), (found-true (sym (aims i)) (t .before .before .before .if2 .left), (t .before .before .if3 .left, (t .before .if4 .left, ap isSet (targets t ∙ c .before .enum-told .given .1))))))
+    ∙ sym (move-at (x .node) (dataOf (x .bundle .now)) 4 (
+      four (i .before),
+      (
+        found-true (sym (aims i)) (t .before .before .before .if2 .left),
+        (t .before .before .if3 .left, (t .before .if4 .left, ap isSet (targets t ∙ c .before .enum-told .given .1))),
+      ),
+    ))
 
 returns-6 : tie.Need-returns-6
 returns-6 c =
@@ -83,9 +99,15 @@ returns-6 c =
     let at = targets t ∙ c .before .before .before .before .before .target .given .1 in
     c .acts .ensures
     ∙ ap (λ (n : Node). acts n Keep)
-    (c .before .with-drive .ensures ∙ ap (withDrive (x .node)) (c .before .before .moved-to .ensures ∙ ap (movedTo (x .node .drive)) (sym (ap pulseOf at))))
-    ∙ sym (move-at (x .node) (dataOf (x .bundle .now)) 5
-    (four (i .before), (found-true (sym (aims i)) (t .before .before .before .if2 .left), (t .before .before .if3 .left, (t .before .if4 .left, (ap isSet at, tt))))))
+    (c .before .with-drive .ensures ∙ ap (withDrive (x .node))
+    (c .before .before .moved-to .ensures ∙ ap (movedTo (x .node .drive)) (sym (ap pulseOf at))))
+    ∙ sym (move-at (x .node) (dataOf (x .bundle .now)) 5 (
+      four (i .before),
+      (
+        found-true (sym (aims i)) (t .before .before .before .if2 .left),
+        (t .before .before .if3 .left, (t .before .if4 .left, (ap isSet at, tt))),
+      ),
+    ))
 
 pub move-to-spec : {M : Type 1} → statement M
 move-to-spec =

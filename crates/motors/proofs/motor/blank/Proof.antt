@@ -20,7 +20,8 @@ returns-3 c = rw (eq-eqb _ _ (c .before .before .before .if1 .left), eq-eqb _ _ 
 
 returns-4 : tie.Need-returns-4
 unfolding blankOf unreadPart
-returns-4 c = rw (eq-eqb _ _ (c .before .before .before .before .if1 .left), eq-eqb _ _ (c .before .before .if2 .left), c .before .if3 .left) (c .no-reading .ensures)
+returns-4 c = rw (eq-eqb _ _ (c .before .before .before .before .if1 .left), eq-eqb _ _ (c .before .before .if2 .left), c .before .if3 .left)
+    (c .no-reading .ensures)
 
 pub blank-spec : {M : Type 1} → statement M
 blank-spec = tie.close (tie.spec returns returns-2 returns-3 (λ c κs. search needs) returns-4)

@@ -66,7 +66,8 @@ returns-7 c =
     let x = c .before .before .before .before .before .before .before .before .before .before .before .before .before .before .before .before .before .before .args in
     let d = dataOf (x .bundle .now) in
     let wrong =
-    reading-missed d (c .before .before .before .data-byte .ensures) (c .before .before .data-byte2 .ensures) (c .before .is-reading .ensures) (c .if7 .taken) in
+    reading-missed d (c .before .before .before .data-byte .ensures) (c .before .before .data-byte2 .ensures) (c .before .is-reading .ensures)
+    (c .if7 .taken) in
     reported-by (x .line) (x .header) (x .count) d 3
     (search line-found, ((search (node-from, node-to), search group-missed), (inr (omega arith), (omega arith, inr wrong))))
 
@@ -78,7 +79,8 @@ returns-8 c =
     let ip = c .before .before .before .before .before .data-byte2 .ensures in
     let right = reading-found d percent ip (c .before .before .before .before .is-reading .ensures) (c .before .before .before .if7 .left) in
     let shown =
-    positioned (x .line) (x .header) d (c .before .before .before .before .before .before .before .before .before .before .if4 .left) (c .before .before .data-byte3 .ensures) (c .before .data-byte4 .ensures) percent ip in
+    positioned (x .line) (x .header) d (c .before .before .before .before .before .before .before .before .before .before .if4 .left)
+    (c .before .before .data-byte3 .ensures) (c .before .data-byte4 .ensures) percent ip in
     rw (c .word .ensures)
     (ap Seen shown
     ∙ reported-by (x .line) (x .header) (x .count) d 4

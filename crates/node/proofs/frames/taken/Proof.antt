@@ -16,7 +16,8 @@ answered-requires : tie.Need-answered-requires
 answered-requires c κs =
     let x = c .before .before .before .before .before .before .before .before .before .before .args in
     let h = c .before .before .before .before .before .before .reading2 .given .0 .0 in
-    subst (λ (o : Outcome). o .count ≤ 20) (sym (c .outcome-of .ensures)) (at-most-20-bytes (x .node) (x .groups) (h .source) (h .message) (dataOf (x .bundle .now)))
+    subst (λ (o : Outcome). o .count ≤ 20) (sym (c .outcome-of .ensures))
+    (at-most-20-bytes (x .node) (x .groups) (h .source) (h .message) (dataOf (x .bundle .now)))
 
 returns : tie.Need-returns
 returns c =

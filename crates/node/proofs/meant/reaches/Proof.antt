@@ -13,10 +13,21 @@ returns-2 : tie.Need-returns-2
 returns-2 c = simp (ne-eqb _ _ (c .before .before .if1 .left), sym (c .before .is-broadcast .ensures) ∙ c .if2 .taken)
 
 returns-3 : tie.Need-returns-3
-returns-3 c = simp (ne-eqb _ _ (c .before .before .before .before .before .if1 .left), sym (c .before .before .before .before .is-broadcast .ensures) ∙ c .before .before .before .if2 .left, sym (c .before .before .is-group .ensures) ∙ c .before .if3 .taken, c .in-table .ensures)
+returns-3 c = simp (
+  ne-eqb _ _ (c .before .before .before .before .before .if1 .left),
+  sym (c .before .before .before .before .is-broadcast .ensures)
+      ∙ c .before .before .before .if2 .left,
+  sym (c .before .before .is-group .ensures) ∙ c .before .if3 .taken,
+  c .in-table .ensures,
+)
 
 returns-4 : tie.Need-returns-4
-returns-4 c = simp (ne-eqb _ _ (c .before .before .before .before .if1 .left), sym (c .before .before .before .is-broadcast .ensures) ∙ c .before .before .if2 .left, sym (c .before .is-group .ensures) ∙ c .if3 .left)
+returns-4 c = simp (
+  ne-eqb _ _ (c .before .before .before .before .if1 .left),
+  sym (c .before .before .before .is-broadcast .ensures)
+      ∙ c .before .before .if2 .left,
+  sym (c .before .is-group .ensures) ∙ c .if3 .left,
+)
 
 pub reaches-spec : {M : Type 1} → statement M
 reaches-spec =

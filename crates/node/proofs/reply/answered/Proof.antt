@@ -38,21 +38,30 @@ returns c =
     let x = c .before .before .before .before .args in
     let o = x .outcome in
     c .silent .ensures
-    ∙ sym (passed (isSaid (o .say) (x .request .ack)) (spoken (x .settings) (x .request) o) (silent (o .node) (o .change)) (found-false (c .before .before .is-said .ensures) (c .before .if1 .taken)))
+    ∙ sym (passed (isSaid (o .say) (x .request .ack)) (spoken (x .settings) (x .request) o) (silent (o .node) (o .change))
+    (found-false (c .before .before .is-said .ensures) (c .before .if1 .taken)))
+
+-- What the function was given.
+abbrev given : tie.After-write-reply → tie.Start
+given c = c .before .before .before .before .before
 
 said : (c : tie.After-write-reply)
-    → answered (c .before .before .before .before .before .args .settings) (c .before .before .before .before .before .args .request) (c .before .before .before .before .before .args .outcome) ≡ spoken (c .before .before .before .before .before .args .settings) (c .before .before .before .before .before .args .request) (c .before .before .before .before .before .args .outcome)
+    →
+    let x = given c .args in
+    answered (x .settings) (x .request) (x .outcome) ≡ spoken (x .settings) (x .request) (x .outcome)
 said c =
     let x = c .before .before .before .before .before .args in
     let o = x .outcome in
-    chosen (isSaid (o .say) (x .request .ack)) (spoken (x .settings) (x .request) o) (silent (o .node) (o .change)) (found-true (c .before .before .before .is-said .ensures) (c .before .before .if1 .left))
+    chosen (isSaid (o .say) (x .request .ack)) (spoken (x .settings) (x .request) o) (silent (o .node) (o .change))
+    (found-true (c .before .before .before .is-said .ensures) (c .before .before .if1 .left))
 
 returns-2 : tie.Need-returns-2
 returns-2 c =
     let w = c .before .before .before .before .before in
     let x = w .before .before .before .before .before .args in
     c .replied .ensures
-    ∙ written (x .settings) (x .request) (x .outcome) (w .write-reply .result) _ (w .write-reply .last .0) (w .write-reply .ensures .0) (w .write-reply .ensures .1) (c .before .before .writing .given .1)
+    ∙ written (x .settings) (x .request) (x .outcome) (w .write-reply .result) _ (w .write-reply .last .0) (w .write-reply .ensures .0)
+    (w .write-reply .ensures .1) (c .before .before .writing .given .1)
     ∙ sym (said w)
 
 returns-3 : tie.Need-returns-3
@@ -60,7 +69,8 @@ returns-3 c =
     let w = c .before .before .before .before in
     let x = w .before .before .before .before .before .args in
     c .replied2 .ensures
-    ∙ written (x .settings) (x .request) (x .outcome) (w .write-reply .result) _ (w .write-reply .last .0) (w .write-reply .ensures .0) (w .write-reply .ensures .1) (c .before .enum-told .given .1)
+    ∙ written (x .settings) (x .request) (x .outcome) (w .write-reply .result) _ (w .write-reply .last .0) (w .write-reply .ensures .0)
+    (w .write-reply .ensures .1) (c .before .enum-told .given .1)
     ∙ sym (said w)
 
 pub answered-spec : {M : Type 1} → statement M

@@ -31,7 +31,8 @@ slice-aggregate-write c =
 header : (c : tie.After-reply-header)
     → let x = c .before .before .before .args in
     c .reply-header .result ≡ replyHeader (x .settings) (x .request) (messageOf (x .outcome .say))
-header c = let x = c .before .before .before .args in c .reply-header .ensures ∙ ap (replyHeader (x .settings) (x .request)) (c .before .message-of .ensures)
+header c = let x = c .before .before .before .args in c .reply-header .ensures ∙ ap (replyHeader (x .settings) (x .request))
+    (c .before .message-of .ensures)
 
 returns : tie.Need-returns
 returns c =

@@ -45,8 +45,11 @@ loop-again : tie.Need-loop-again Inv-loop μ-loop
 loop-again c =
     let s = c .before .before .before .before in
     let n = sixteen (s .before) in
-    let x = s .before .args in
-    (search needs, sym (miss (x .t1 .slots) (x .position) (s .loop .number) (omega arith) (sym (c .before .is-at .ensures) ∙ c .if2 .left)) ∙ s .loop .inv .1)
+    let x = s .before .args in (
+      search needs,
+      sym (miss (x .t1 .slots) (x .position) (s .loop .number) (omega arith) (sym (c .before .is-at .ensures) ∙ c .if2 .left))
+          ∙ s .loop .inv .1,
+    )
 
 returns : tie.Need-returns Inv-loop μ-loop
 returns c =

@@ -36,8 +36,12 @@ loop-again : tie.Need-loop-again Inv-loop μ-loop
 loop-again c =
     let l = c .before .before in
     let x = l .before .args in
-    let m = l .loop .inv .1 in
-    (omega arith, simp length-set m, one-more (x .n) (x .travel) (l .loop .slots) (l .loop .number) (c .shared-ip .result) (omega arith) (c .shared-ip .ensures) (l .loop .inv .2))
+    let m = l .loop .inv .1 in (
+      omega arith,
+      simp length-set m,
+      one-more (x .n) (x .travel) (l .loop .slots) (l .loop .number) (c .shared-ip .result) (omega arith)
+          (c .shared-ip .ensures) (l .loop .inv .2),
+    )
 
 returns : tie.Need-returns Inv-loop μ-loop
 returns c =

@@ -63,11 +63,13 @@ loop-again c =
         search needs,
         rw (t .1)
             (sym (never (s .loop .within))
-            ∙ rw (beyond (x .travel) (x .t1 .slots) (s .loop .place) (omega arith) (found-false (c .before .ip-within .ensures) (t .0 .taken))) at (s .loop .inv .1)),
+            ∙ rw (beyond (x .travel) (x .t1 .slots) (s .loop .place) (omega arith) (found-false (c .before .ip-within .ensures) (t .0 .taken))) at
+            (s .loop .inv .1)),
       )
       | inr f ↦ (
         search needs,
-        rw (f .1, ← passed (x .travel) (x .t1 .slots) (s .loop .place) (omega arith) (found-true (c .before .ip-within .ensures) (f .0 .left))) (s .loop .inv .1),
+        rw (f .1, ← passed (x .travel) (x .t1 .slots) (s .loop .place) (omega arith) (found-true (c .before .ip-within .ensures) (f .0 .left)))
+            (s .loop .inv .1),
       )
     ]
 

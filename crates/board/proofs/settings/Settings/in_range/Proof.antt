@@ -22,7 +22,12 @@ returns-3 c =
 returns-4 : tie.Need-returns-4
 returns-4 c =
     let i = c .before .before .before .before .before in
-    rw (found-true (i .before .is-node-id .ensures) (i .if1 .left), le-leb _ _ (c .before .before .before .if2 .left), le-leb _ _ (c .before .if3 .left))
+    rw (
+      found-true (i .before .is-node-id .ensures) (i .if1 .left),
+      le-leb _ _ (c .before .before .before .if2 .left),
+      le-leb _ _
+          (c .before .if3 .left),
+    )
 
 pub in-range-spec : {M : Type 1} → statement M
 in-range-spec =

@@ -34,13 +34,15 @@ sound c =
     rw (c .lay-all .ensures) (sound-all (x .self) (take (e .bundle-end .result - x .place) (drop (x .place) (x .bytes .now))) (begins-sound start))
 
 is-open : (c : tie.After-lay-all)
-    → c .before .before .before .before .bundle-end .result < length (c .before .before .before .before .before .before .before .before .args .bytes .now)
+    → c .before .before .before .before .bundle-end .result < length
+    (c .before .before .before .before .before .before .before .before .args .bytes .now)
     → after c .count ≢ 0
 is-open c h none =
     let e = c .before .before .before .before in
     let f = e .before in
     let x = f .before .before .before .args in
-    open-there (x .bytes .now) (x .silences .now) (omega arith) (x .self) (x .place) (f .first-to-end-it .result) (e .bundle-end .result) (omega arith) (omega arith)
+    open-there (x .bytes .now) (x .silences .now) (omega arith) (x .self) (x .place) (f .first-to-end-it .result) (e .bundle-end .result)
+    (omega arith) (omega arith)
     (f .first-to-end-it .ensures .2) h (sym (ap (λ (r : Reader). r .count) (c .lay-all .ensures)) ∙ none)
 
 goes : (c : tie.After-lay-all) → let e = c .before .before .before .before in let x = e .before .before .before .before .args in
@@ -52,7 +54,8 @@ goes c =
     let start = f .before .before .before in
     let x = start .args in
     let j = e .bundle-end .result in
-    to-end (x .bytes .now) (x .silences .now) (omega arith) (x .self) (x .place) (f .first-to-end-it .result) j (omega arith) (omega arith) (begins-sound start)
+    to-end (x .bytes .now) (x .silences .now) (omega arith) (x .self) (x .place) (f .first-to-end-it .result) j (omega arith) (omega arith)
+    (begins-sound start)
     (f .first-to-end-it .ensures .2) (e .bundle-end .ensures .2)
     ∙ ap (λ (r : Reader). runOf r (drop j (x .bytes .now)) (drop j (x .silences .now)) j) (sym (c .lay-all .ensures))
 

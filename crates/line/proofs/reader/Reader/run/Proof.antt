@@ -12,21 +12,24 @@ returns : tie.Need-returns
 returns c =
     let t = c .before in
     let x = t .before .before .before .before .args in
-    c .refusing .ensures ∙ sym (run-broken (x .self) (x .bytes .now) (x .silences .now) (x .place) (sym (t .before .is-sound .ensures) ∙ not-true _ (t .if1 .taken)))
+    c .refusing .ensures ∙ sym
+    (run-broken (x .self) (x .bytes .now) (x .silences .now) (x .place) (sym (t .before .is-sound .ensures) ∙ not-true _ (t .if1 .taken)))
 
 returns-2 : tie.Need-returns-2
 returns-2 c =
     let t = c .before .before in
     let x = t .before .before .before .before .args in
     c .refusing2 .ensures
-    ∙ sym (run-unequal (x .self) (x .bytes .now) (x .silences .now) (x .place) (sym (t .before .is-sound .ensures) ∙ not-false _ (t .if1 .left)) (c .before .if2 .taken))
+    ∙ sym (run-unequal (x .self) (x .bytes .now) (x .silences .now) (x .place) (sym (t .before .is-sound .ensures) ∙ not-false _ (t .if1 .left))
+    (c .before .if2 .taken))
 
 returns-3 : tie.Need-returns-3
 returns-3 c =
     let t = c .before .before .before in
     let x = t .before .before .before .before .args in
     c .refusing3 .ensures
-    ∙ sym (run-past-end (x .self) (x .bytes .now) (x .silences .now) (x .place) (sym (t .before .is-sound .ensures) ∙ not-false _ (t .if1 .left)) (c .before .before .if2 .left) (omega arith))
+    ∙ sym (run-past-end (x .self) (x .bytes .now) (x .silences .now) (x .place) (sym (t .before .is-sound .ensures) ∙ not-false _ (t .if1 .left))
+    (c .before .before .if2 .left) (omega arith))
 
 go-on-requires : tie.Need-go-on-requires
 go-on-requires c κs =
@@ -38,7 +41,8 @@ returns-4 c =
     let t = c .before .before .before in
     let x = t .before .before .before .before .args in
     rw
-    (run-goes (x .self) (x .bytes .now) (x .silences .now) (x .place) (sym (t .before .is-sound .ensures) ∙ not-false _ (t .if1 .left)) (c .before .before .if2 .left)
+    (run-goes (x .self) (x .bytes .now) (x .silences .now) (x .place) (sym (t .before .is-sound .ensures) ∙ not-false _ (t .if1 .left))
+    (c .before .before .if2 .left)
     (omega arith))
     (c .go-on .ensures)
 

@@ -17,7 +17,13 @@ returns-2 c = rw (c .before .before .before .sound-after .ensures, le-ltb _ _ (c
 
 returns-3 : tie.Need-returns-3
 unfolding past
-returns-3 c = rw (c .before .before .before .before .before .sound-after .ensures, le-ltb _ _ (c .before .before .before .if1 .left), lt-leb _ _ (c .before .before .if2 .left), sym (c .before .earlier .ensures) ∙ c .if3 .taken)
+returns-3 c = rw (
+  c .before .before .before .before .before .sound-after .ensures,
+  le-ltb _ _ (c .before .before .before .if1 .left),
+  lt-leb _ _
+      (c .before .before .if2 .left),
+  sym (c .before .earlier .ensures) ∙ c .if3 .taken,
+)
 
 returns-4 : tie.Need-returns-4
 unfolding past
