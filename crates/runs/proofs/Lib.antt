@@ -1,0 +1,10 @@
+pub mod Order
+pub mod Lookup
+pub mod Placing
+pub mod Removing
+pub mod Sameness
+pub mod ByPlace
+pub mod Place
+pub mod Filled
+pub mod Moving
+pub mod InPlace
