@@ -8,40 +8,36 @@ use mathlib.Core.Bool.{true}
 use mathlib.Core.List.{List}
 use mathlib.Core.Option.{Option, none, some}
 use lib.ListN.{length}
-use lib.Seq.{take-at}
 use Rattle.meaning.specs.Tables.{of-decided}
 use Rattle.refusal.specs.declared.Refusal.{Refusal}
 use Rattle.frame.specs.Layout.{message, source, headerOf, dataOf}
 use Rattle.frame.specs.Reading.{IsFrame}
-use Rattle.motors.specs.Motor.{zeros, unread, withReading}
+use Rattle.runs.proofs.Order.{else-false}
+use Rattle.motors.specs.Motor.{unread, withReading}
 use Rattle.motors.specs.Register.{held, filled, soundOf, foundIn, found}
 use Rattle.motors.specs.Report.{reportOf, pulseIn, percentIn, ipIn}
-use Rattle.motors.specs.Filing.{keeping, entered, enterTable, enteredOf, filedBy, fileTable, filedOf, isSome, countAfter}
+use Rattle.runs.specs.Ordered.{isSome, lookedUp}
+use Rattle.motors.specs.Order.{byLineAndNode, Key, keyOf, same, same-is}
+use Rattle.motors.specs.Filing.{keeping, entered, keepTable, keptOf, reportedBy, fileTable, filingOf, filedOf, countAfter}
 use Rattle.motors.specs.declared.answer.Answer.{Answer}
 use Rattle.motors.specs.declared.answer.Answer.the-variants.{Count, Refused}
 use Rattle.motors.specs.declared.answer.Next.{Next}
 use Rattle.motors.specs.declared.motor.Motor.{Motor}
 use Rattle.motors.specs.declared.report.Report.{Report}
 use Rattle.motors.specs.declared.report.Report.the-variants as report
-use Rattle.motors.proofs.Order.{another, zeros-first}
-use Rattle.motors.proofs.InOrder.{sound-is, is-sound}
-use Rattle.motors.proofs.Held.{
+use Rattle.motors.proofs.Sound.{sound-is, is-sound, length-held, held-again}
+use Rattle.motors.proofs.Entered.{
   renewedIf,
   more,
-  entered-in-order,
-  entered-another,
   entered-itself,
+  entered-another,
   entered-keeps,
   entered-number,
   entered-at-most-one-more,
+  entered-ascends,
+  entered-right,
 }
-use Rattle.motors.proofs.Register.{length-held}
 use Rattle.motors.proofs.Shown.{Shown, seen}
-
--- The records held after a call that keeps them.
-pub held-again : (l : List Motor) → held (filled l) (length l) ≡ l
-unfolding filled
-held-again l = take-at l _ (length l) refl
 
 -- A reading takes the place of whatever was there.
 latest : (f : Option Motor) (line node pulse percent ip : ℕ)
@@ -67,11 +63,11 @@ module _ (run : List Motor) (count line : ℕ) (b : List ℕ) where
   abbrev As : Next → Type 0
   As x = Filed x (x .answer)
 
-  entered-as : soundOf run count ≡ true → (m : Motor) → reportOf line b ≡ report.Seen m → As (enteredOf run count m)
-  unfolding enteredOf
+  entered-as : soundOf run count ≡ true → (m : Motor) → reportOf line b ≡ report.Seen m → As (keptOf run (entered (held run count) m))
+  unfolding keptOf
   entered-as ok m e =
       let s = seen line b m e in
-      of-decided As (enterTable run count m) (keeping (entered (held run count) m)) (refl, tt)
+      of-decided As (keepTable run (entered (held run count) m)) (keeping (entered (held run count) m)) (refl, tt)
       (λ facts. record {
         ok = ok;
         motor = m;
@@ -82,14 +78,15 @@ module _ (run : List Motor) (count line : ℕ) (b : List ℕ) where
         number = refl;
       })
 
-  reported-as : soundOf run count ≡ true → (r : Report) → reportOf line b ≡ r → As (filedBy run count r)
+  reported-as : soundOf run count ≡ true → (r : Report) → reportOf line b ≡ r → As (reportedBy entered run count r)
   reported-as ok (report.Seen m) e = entered-as ok m e
   reported-as ok (report.Refused q) e = refl
 
   filed-as : As (filedOf run count line b)
-  unfolding filedOf
+  unfolding filingOf
   filed-as =
-      of-decided As (fileTable run count) (filedBy run count (reportOf line b)) (refl, tt) (λ facts. reported-as (facts .0) (reportOf line b) refl)
+      of-decided As (fileTable run count) (reportedBy entered run count (reportOf line b)) (refl, tt)
+      (λ facts. reported-as (facts .0) (reportOf line b) refl)
 
   abbrev after : Next
   after = filedOf run count line b
@@ -115,7 +112,7 @@ module _ (run : List Motor) (count line : ℕ) (b : List ℕ) where
     found-now =
         ap₂ (foundIn (held (after .motors) n)) (sym same-line) (sym same-number)
         ∙ ap (λ (l : List Motor). foundIn l (done .motor .line) (done .motor .node)) records
-        ∙ entered-itself (done .motor) zeros (held run count) (sound-is run count (done .ok) .in-order)
+        ∙ entered-itself (held run count) (done .motor)
         ∙ ap₂ (λ (l k : ℕ). some (renewedIf (found run count l k) (done .motor))) same-line same-number
 
     -- ---- demand 2: what is filed is found under its line and NodeID
@@ -142,8 +139,12 @@ module _ (run : List Motor) (count line : ℕ) (b : List ℕ) where
         → found (after .motors) n line′ node′ ≡ found run count line′ node′
     every-other-motor-is-untouched line′ node′ other =
         ap (λ (l : List Motor). foundIn l line′ node′) records
-        ∙ entered-another (held run count) (done .motor) line′ node′
-        (another (done .motor) line′ node′ (λ l k. other (sym same-line ∙ l) (sym same-number ∙ k)))
+        ∙ entered-another (held run count) (done .motor) (line′, node′) (else-false (same (keyOf (done .motor)) (line′, node′)) differs)
+      where
+        differs : same (keyOf (done .motor)) (line′, node′) ≡ true → ⊥
+        differs s =
+            let its = same-is (keyOf (done .motor)) (line′, node′) s in
+            other (sym same-line ∙ ap (λ (k : Key). k .0) its) (sym same-number ∙ ap (λ (k : Key). k .1) its)
 
     pub the-same-number-on-another-line-is-untouched : (line′ : ℕ) → line ≢ line′
         → found (after .motors) n line′ (source b .0) ≡ found run count line′ (source b .0)
@@ -152,27 +153,28 @@ module _ (run : List Motor) (count line : ℕ) (b : List ℕ) where
     -- ---- nothing held is lost
     pub no-motor-held-is-lost : (line′ node′ : ℕ) → isSome (found run count line′ node′) ≡ true → isSome (found (after .motors) n line′ node′) ≡ true
     no-motor-held-is-lost line′ node′ h =
-        ap (λ (l : List Motor). isSome (foundIn l line′ node′)) records ∙ entered-keeps (held run count) (done .motor) line′ node′ h
+        ap (λ (l : List Motor). isSome (foundIn l line′ node′)) records ∙ entered-keeps (held run count) (done .motor) (line′, node′) h
 
     -- ---- the count
     pub the-count-grows-for-a-new-motor-alone : n ≡ more (found run count line (source b .0)) + count
     the-count-grows-for-a-new-motor-alone =
         done .number
-        ∙ entered-number (done .motor) zeros (held run count) (sound-is run count (done .ok) .in-order)
+        ∙ entered-number (held run count) (done .motor) (sound-is run count (done .ok) .ascending)
         ∙ ap₂ _+_ (ap₂ (λ (l k : ℕ). more (found run count l k)) same-line same-number) (length-held run count (done .ok))
 
     pub the-count-grows-by-at-most-one : (count ≤ n) × (n ≤ suc count)
     the-count-grows-by-at-most-one =
-        let g = entered-at-most-one-more (held run count) (done .motor) in
+        let g = entered-at-most-one-more (held run count) (done .motor) (sound-is run count (done .ok) .ascending) in
         (omega (arith, g .0, done .number, length-held run count (done .ok)), omega (arith, g .1, done .number, length-held run count (done .ok)))
 
     -- ---- row 19 is kept
     pub the-register-stays-sound : soundOf (after .motors) n ≡ true
     the-register-stays-sound =
-        let m = done .motor in
-        let o = entered-in-order m (done .shown .right) zeros (held run count) (zeros-first m (done .shown .right))
-        (sound-is run count (done .ok) .in-order) in
-        ap₂ soundOf (done .places) (done .number) ∙ is-sound (entered (held run count) m) (done .at-most-256) o
+        let sound = sound-is run count (done .ok) in
+        ap₂ soundOf (done .places) (done .number)
+        ∙ is-sound (entered (held run count) (done .motor)) (done .at-most-256)
+        (entered-right (held run count) (done .motor) (sound .all-right) (done .shown .right))
+        (entered-ascends (held run count) (done .motor) (sound .ascending))
 
   -- A register once sound stays so, whatever is filed.
   still-sound : (x : Answer) → after .answer ≡ x → soundOf run count ≡ true → soundOf (after .motors) (countAfter count x) ≡ true

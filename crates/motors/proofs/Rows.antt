@@ -1,7 +1,7 @@
 -- What a table of the register decides: a row's answer, from the facts of the rows that are passed over and its own, or the rest.
 -- Assumes nothing.
 use Prim.Native.Nat.{ℕ, _+_, _*_, _≤_, _<_}
-use mathlib.Core.Path.{_≡_, _∙_, sym, ap}
+use mathlib.Core.Path.{_≡_, _∙_, sym}
 use mathlib.Core.Logic.{_≢_, _⊎_}
 use mathlib.Core.Bool.{Bool, true, false, not}
 use mathlib.Core.List.{List}
@@ -13,8 +13,10 @@ use Rattle.meaning.specs.Tables.{Applies, answerAt, decided, no-row-applies}
 use Rattle.frame.specs.declared.header.Header.{Header}
 use Rattle.motors.specs.Motor.{unread, withReading, isLine, aNode, isNode, aReading, isReading}
 use Rattle.motors.specs.Register.{held, soundOf}
-use Rattle.motors.specs.Report.{percentIn, ipIn, reportTable, shownBy, reported, reportOf}
-use Rattle.motors.specs.Filing.{keeping, entered, enterTable, enteredOf, without, fileTable, filedOf, filedBy, strikeTable, struckOf}
+use Rattle.motors.specs.Report.{percentIn, ipIn, reportTable, shownBy, reported}
+use Rattle.runs.specs.Ordered.{without}
+use Rattle.motors.specs.Order.{byLineAndNode}
+use Rattle.motors.specs.Filing.{keeping, keepTable, keptOf, fileTable, filingOf, reportedBy, strikeTable, struckOf}
 use Rattle.motors.specs.declared.motor.Motor.{Motor}
 use Rattle.motors.specs.declared.report.Report.{Report}
 use Rattle.motors.specs.declared.report.Report.the-variants.{Seen}
@@ -73,26 +75,28 @@ pub reported-by : (line : ℕ) (h : Header) (count : ℕ) (d : List ℕ) (passed
 unfolding reported
 reported-by line h count d passed facts = sym (decided passed (reportTable line h count d) (Seen (shownBy line h d)) facts)
 
--- Entering a report.
-pub entered-by : (run : List Motor) (count : ℕ) (m : Motor) (passed : ℕ) → Applies passed (enterTable run count m)
-    → enteredOf run count m ≡ answerAt passed (enterTable run count m) (keeping (entered (held run count) m))
-unfolding enteredOf
-entered-by run count m passed facts = decided passed (enterTable run count m) (keeping (entered (held run count) m)) facts
+-- Records kept, or row 24.
+pub kept-by : (run l : List Motor) (passed : ℕ) → Applies passed (keepTable run l)
+    → keptOf run l ≡ answerAt passed (keepTable run l) (keeping l)
+unfolding keptOf
+kept-by run l passed facts = decided passed (keepTable run l) (keeping l) facts
 
-module _ (run : List Motor) (count line : ℕ) where
+module _ (enter : List Motor → Motor → List Motor) (run : List Motor) (count : ℕ) where
   -- Filing: row 19, or what the frame reports.
-  pub filed-by : (b : List ℕ) (passed : ℕ) → Applies passed (fileTable run count)
-      → filedOf run count line b ≡ answerAt passed (fileTable run count) (filedBy run count (reportOf line b))
-  unfolding filedOf
-  filed-by b passed facts = decided passed (fileTable run count) (filedBy run count (reportOf line b)) facts
+  pub filed-by : (r : Report) (passed : ℕ) → Applies passed (fileTable run count)
+      → filingOf enter run count r ≡ answerAt passed (fileTable run count) (reportedBy enter run count r)
+  unfolding filingOf
+  filed-by r passed facts = decided passed (fileTable run count) (reportedBy enter run count r) facts
 
   -- A sound register does what the frame reports.
-  pub as-reported : (b : List ℕ) (r : Report) → soundOf run count ≡ true → reportOf line b ≡ r → filedOf run count line b ≡ filedBy run count r
-  unfolding filedOf
-  as-reported b r e s = no-row-applies (fileTable run count) (filedBy run count (reportOf line b)) (e, tt) ∙ ap (filedBy run count) s
+  pub as-reported : (r : Report) → soundOf run count ≡ true → filingOf enter run count r ≡ reportedBy enter run count r
+  unfolding filingOf
+  as-reported r e = no-row-applies (fileTable run count) (reportedBy enter run count r) (e, tt)
 
-  -- Striking out.
-  pub struck-by : (node passed : ℕ) → Applies passed (strikeTable run count line node)
-      → struckOf run count line node ≡ answerAt passed (strikeTable run count line node) (keeping (without (held run count) line node))
-  unfolding struckOf
-  struck-by node passed facts = decided passed (strikeTable run count line node) (keeping (without (held run count) line node)) facts
+-- Striking out.
+pub struck-by : (run : List Motor) (count line node passed : ℕ) → Applies passed (strikeTable run count line node)
+    → struckOf run count line node
+    ≡ answerAt passed (strikeTable run count line node) (keeping (without byLineAndNode (held run count) (line, node)))
+unfolding struckOf
+struck-by run count line node passed facts =
+    decided passed (strikeTable run count line node) (keeping (without byLineAndNode (held run count) (line, node))) facts

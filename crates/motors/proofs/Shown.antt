@@ -17,19 +17,20 @@ use Rattle.frame.specs.declared.header.Header.{Header}
 use Rattle.frame.specs.declared.reading.Reading.{Reading}
 use Rattle.frame.specs.declared.reading.Reading.the-variants as reading
 use Rattle.frame.proofs.Frames.{frame-exactly-when, frame-is-read}
-use Rattle.motors.specs.Motor.{unread, withReading, isLine, aNode, isNode, aReading, isReading, unreadPart, rightOf}
+use Rattle.motors.specs.Motor.{unread, withReading, isLine, aNode, isNode, aReading, isReading, unreadPart, readingPart}
+use Rattle.motors.specs.Motor.{rightBesideLine, rightOf}
 use Rattle.motors.specs.Report.{reportTable, shownBy, reported, reportBy, reportOf, pulseIn, percentIn, ipIn}
 use Rattle.motors.specs.declared.motor.Motor.{Motor}
 use Rattle.motors.specs.declared.report.Report.{Report}
 use Rattle.motors.specs.declared.report.Report.the-variants.{Seen, Refused}
 
 unread-right : (line node : ℕ) → isLine line ≡ true → isNode node ≡ true → rightOf (unread line node) ≡ true
-unfolding rightOf unreadPart
+unfolding rightOf rightBesideLine readingPart unreadPart
 unread-right line node l n = rw (l, n)
 
 reading-right : (line node pulse percent ip : ℕ) → isLine line ≡ true → isNode node ≡ true → isReading percent ip ≡ true
     → rightOf (withReading line node pulse percent ip) ≡ true
-unfolding rightOf
+unfolding rightOf rightBesideLine readingPart
 reading-right line node pulse percent ip l n r = rw (l, n, r)
 
 -- The record that a frame shows.

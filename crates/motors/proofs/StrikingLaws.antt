@@ -10,28 +10,36 @@ use mathlib.Core.Option.{none}
 use lib.ListN.{length}
 use Rattle.meaning.specs.Tables.{of-decided}
 use Rattle.refusal.specs.declared.Refusal.{Refusal}
-use Rattle.motors.specs.Motor.{zeros}
-use Rattle.motors.specs.Register.{held, filled, soundOf, foundIn, found}
+use Rattle.motors.specs.Register.{held, filled, soundOf, foundIn, found, Right}
 use Rattle.motors.specs.Report.{reportOf}
-use Rattle.motors.specs.Filing.{keeping, without, isSome, strikeTable, struckOf, filedOf, enteredOf, entered, countAfter}
+use Rattle.runs.specs.Ordered.{isSome, without}
+use Rattle.runs.proofs.Order.{else-false}
+use Rattle.runs.proofs.Removing.{
+  without-it-the-key-is-gone,
+  without-leaves-every-other-key,
+  without-keeps-the-order,
+  without-one-held-is-one-less,
+  without-keeps-the-kind,
+}
+use Rattle.motors.specs.Order.{byLineAndNode, Key, same, same-is}
+use Rattle.motors.specs.Filing.{keeping, strikeTable, struckOf, filingOf, filedOf, keptOf, entered, countAfter}
 use Rattle.motors.specs.declared.answer.Answer.{Answer}
 use Rattle.motors.specs.declared.answer.Answer.the-variants.{Count, Refused}
 use Rattle.motors.specs.declared.answer.Next.{Next}
 use Rattle.motors.specs.declared.motor.Motor.{Motor}
+use Rattle.motors.specs.declared.report.Report.{Report}
 use Rattle.motors.specs.declared.report.Report.the-variants as report
-use Rattle.motors.proofs.InOrder.{sound-is, is-sound}
-use Rattle.motors.proofs.Held.{struck-another, struck-itself, struck-in-order, struck-number, entered-at-most-one-more}
-use Rattle.motors.proofs.Register.{length-held}
-use Rattle.motors.proofs.Rows.{entered-by, as-reported}
-use Rattle.motors.proofs.FilingLaws.{held-again}
+use Rattle.motors.proofs.Sound.{sound-is, is-sound, length-held, held-again}
+use Rattle.motors.proofs.Entered.{entered-at-most-one-more}
+use Rattle.motors.proofs.Rows.{kept-by, as-reported}
 
 module _ (run : List Motor) (count line node : ℕ) where
   -- A motor that is struck out: the register was sound and held it.
   record Gone (motors : List Motor) (n : ℕ) : Type 0 where
     ok : soundOf run count ≡ true
     was-held : isSome (found run count line node) ≡ true
-    places : motors ≡ filled (without (held run count) line node)
-    number : n ≡ length (without (held run count) line node)
+    places : motors ≡ filled (without byLineAndNode (held run count) (line, node))
+    number : n ≡ length (without byLineAndNode (held run count) (line, node))
 
   abbrev Struck : Next → Answer → Type 0
   Struck x (Count n) = Gone (x .motors) n
@@ -43,7 +51,7 @@ module _ (run : List Motor) (count line node : ℕ) where
   struck-as : As (struckOf run count line node)
   unfolding struckOf
   struck-as =
-      of-decided As (strikeTable run count line node) (keeping (without (held run count) line node)) (search) (λ facts. search)
+      of-decided As (strikeTable run count line node) (keeping (without byLineAndNode (held run count) (line, node))) (search) (λ facts. search)
 
   abbrev after : Next
   after = struckOf run count line node
@@ -56,18 +64,22 @@ module _ (run : List Motor) (count line node : ℕ) where
     done : Gone (after .motors) n
     done = subst (Struck after) accepted struck-as
 
-    records : held (after .motors) n ≡ without (held run count) line node
-    records = ap₂ held (done .places) (done .number) ∙ held-again (without (held run count) line node)
+    records : held (after .motors) n ≡ without byLineAndNode (held run count) (line, node)
+    records = ap₂ held (done .places) (done .number) ∙ held-again (without byLineAndNode (held run count) (line, node))
 
     pub the-motor-struck-out-is-gone : found (after .motors) n line node ≡ none
     the-motor-struck-out-is-gone =
         ap (λ (l : List Motor). foundIn l line node) records
-        ∙ struck-itself line node zeros (held run count) (sound-is run count (done .ok) .in-order)
+        ∙ without-it-the-key-is-gone byLineAndNode (held run count) (line, node) (sound-is run count (done .ok) .ascending)
 
     pub every-other-motor-stays : (line′ node′ : ℕ) → (line ≡ line′ → node ≡ node′ → ⊥)
         → found (after .motors) n line′ node′ ≡ found run count line′ node′
     every-other-motor-stays line′ node′ other =
-        ap (λ (l : List Motor). foundIn l line′ node′) records ∙ struck-another line node (held run count) line′ node′ other
+        ap (λ (l : List Motor). foundIn l line′ node′) records
+        ∙ without-leaves-every-other-key byLineAndNode (held run count) (line, node) (line′, node′)
+        (else-false (same (line, node) (line′, node′)) (λ s.
+        let its = same-is (line, node) (line′, node′) s in
+        other (ap (λ (k : Key). k .0) its) (ap (λ (k : Key). k .1) its)))
 
     pub the-same-number-on-another-line-stays : (line′ : ℕ) → line ≢ line′ → found (after .motors) n line′ node ≡ found run count line′ node
     the-same-number-on-another-line-stays line′ other = every-other-motor-stays line′ node (λ l k. other l)
@@ -75,14 +87,18 @@ module _ (run : List Motor) (count line node : ℕ) where
     -- ---- the place is given back
     pub one-place-is-given-back : suc n ≡ count
     one-place-is-given-back =
-        ap suc (done .number) ∙ struck-number line node (held run count) (done .was-held) ∙ length-held run count (done .ok)
+        ap suc (done .number) ∙ without-one-held-is-one-less byLineAndNode (held run count) (line, node) (done .was-held)
+        ∙ length-held run count (done .ok)
 
     pub the-register-stays-sound : soundOf (after .motors) n ≡ true
     the-register-stays-sound =
-        let l = without (held run count) line node in
+        let l = without byLineAndNode (held run count) (line, node) in
         let few : length l ≤ 256 = omega (arith, one-place-is-given-back, done .number, sound-is run count (done .ok) .at-most-256) in
-        ap₂ soundOf (done .places) (done .number) ∙ is-sound l few
-        (struck-in-order line node zeros (held run count) (sound-is run count (done .ok) .in-order))
+        let sound = sound-is run count (done .ok) in
+        ap₂ soundOf (done .places) (done .number)
+        ∙ is-sound l few
+        (without-keeps-the-kind byLineAndNode Right (held run count) (line, node) (sound .all-right))
+        (without-keeps-the-order byLineAndNode (held run count) (line, node) (sound .ascending))
 
   still-sound : (x : Answer) → after .answer ≡ x → soundOf run count ≡ true → soundOf (after .motors) (countAfter count x) ≡ true
   still-sound (Count n) e ok = the-register-stays-sound n e
@@ -93,14 +109,16 @@ module _ (run : List Motor) (count line node : ℕ) where
 
 -- With room for one more, whatever a frame reports is entered.
 module _ (run : List Motor) (count line : ℕ) (b : List ℕ) (ok : soundOf run count ≡ true) (room : count < 256) where
-  with-room : (m : Motor) → enteredOf run count m .answer ≡ Count (length (entered (held run count) m))
+  with-room : (m : Motor) → keptOf run (entered (held run count) m) .answer ≡ Count (length (entered (held run count) m))
   with-room m =
-      ap (λ (x : Next). x .answer)
-      (entered-by run count m 1 (omega (arith, entered-at-most-one-more (held run count) m .1, length-held run count ok), tt))
+      let most = entered-at-most-one-more (held run count) m (sound-is run count ok .ascending) .1 in
+      ap (λ (x : Next). x .answer) (kept-by run (entered (held run count) m) 1 (omega (arith, most, length-held run count ok), tt))
 
   pub a-motor-reported-gets-a-place : (m : Motor) → reportOf line b ≡ report.Seen m
       → filedOf run count line b .answer ≡ Count (length (entered (held run count) m))
-  a-motor-reported-gets-a-place m e = ap (λ (x : Next). x .answer) (as-reported run count line b (report.Seen m) ok e) ∙ with-room m
+  a-motor-reported-gets-a-place m e =
+      ap (λ (r : Report). filingOf entered run count r .answer) e ∙ ap (λ (x : Next). x .answer) (as-reported entered run count (report.Seen m) ok)
+      ∙ with-room m
 
 -- The place given back serves whatever motor is reported next, even where 256 were held.
 pub a-later-enrolment-may-use-the-place : (run : List Motor) (count line node n : ℕ) → struckOf run count line node .answer ≡ Count n

@@ -12,7 +12,9 @@ use Rattle.meaning.specs.Choice.{if_then_else_}
 use Rattle.meaning.specs.Tests.{Test, _above_, fails}
 use Rattle.meaning.specs.Tables.{Row, _when_, decide}
 use Rattle.refusal.specs.declared.Refusal.{Refusal}
-use Rattle.motors.specs.Motor.{earlierOf, isMotor}
+use Rattle.runs.specs.Ordered.{isSome, holds, placed, without}
+use Rattle.motors.specs.Motor.{marked}
+use Rattle.motors.specs.Order.{byLineAndNode, keyOf}
 use Rattle.motors.specs.Register.{places, held, filled, soundOf, found}
 use Rattle.motors.specs.Report.{reportOf}
 use Rattle.motors.specs.declared.answer.Answer.{Answer}
@@ -29,46 +31,42 @@ keeping l = record { motors = filled l; answer = Count (length l) }
 abbrev pub refusing : List Motor → Refusal → Next
 refusing run r = record { motors = run; answer = Refused r }
 
--- A report on a motor held: a reading takes the place of the last one, none changes nothing.
-abbrev pub renewed : Motor → Motor → Motor
-renewed x m = if m .reading then m else x
+-- A reading: it takes the place of the last one, or its motor gets its place in the order.
+abbrev pub recorded : List Motor → Motor → List Motor
+recorded l m = placed byLineAndNode l m
 
--- A report is entered at its motor's place in the order.
+-- A motor that names itself: one that is held stays as it is.
+unfoldable pub enrolled : List Motor → Motor → List Motor
+enrolled l m = if holds byLineAndNode l (keyOf m) then l else recorded l m
+
+-- A report entered, by what it shows.
 unfoldable pub entered : List Motor → Motor → List Motor
-entered [] m = m ∷ []
-entered (x ∷ l) m =
-    if earlierOf x m then x ∷ entered l m else
-    if isMotor x (m .line) (m .node) then renewed x m ∷ l else
-    m ∷ x ∷ l
+entered l m = if marked m then recorded l m else enrolled l m
 
 -- Row 24: a new motor while 256 are held would be the 257th.
-abbrev pub enterTable : List Motor → ℕ → Motor → List (Row Next)
-enterTable run count m = refusing run Refusal.RegisterFull when length (entered (held run count) m) above places ∷ []
+abbrev pub keepTable : List Motor → List Motor → List (Row Next)
+keepTable run l = refusing run Refusal.RegisterFull when length l above places ∷ []
 
--- A report entered, or refused for want of a place.
-unfoldable pub enteredOf : List Motor → ℕ → Motor → Next
-enteredOf run count m = decide (enterTable run count m) (keeping (entered (held run count) m))
+-- These records are held, or refused for want of a place.
+unfoldable pub keptOf : List Motor → List Motor → Next
+keptOf run l = decide (keepTable run l) (keeping l)
 
-abbrev pub filedBy : List Motor → ℕ → Report → Next
-filedBy run count (report.Seen m) = enteredOf run count m
-filedBy run count (report.Refused r) = refusing run r
+-- A report, entered in one of these ways.
+abbrev pub reportedBy : (List Motor → Motor → List Motor) → List Motor → ℕ → Report → Next
+reportedBy enter run count (report.Seen m) = keptOf run (enter (held run count) m)
+reportedBy enter run count (report.Refused r) = refusing run r
 
 -- Why no frame is looked at: row 19.
 abbrev pub fileTable : List Motor → ℕ → List (Row Next)
 fileTable run count = refusing run Refusal.BrokenRegister when fails (soundOf run count) ∷ []
 
--- A frame from a line: row 19, then what the frame reports.
-unfoldable pub filedOf : List Motor → ℕ → ℕ → List ℕ → Next
-filedOf run count line b = decide (fileTable run count) (filedBy run count (reportOf line b))
+-- Row 19, then what the frame reports.
+unfoldable pub filingOf : (List Motor → Motor → List Motor) → List Motor → ℕ → Report → Next
+filingOf enter run count r = decide (fileTable run count) (reportedBy enter run count r)
 
--- Striking out closes the gap.
-unfoldable pub without : List Motor → ℕ → ℕ → List Motor
-without [] line node = []
-without (m ∷ l) line node = if isMotor m line node then l else m ∷ without l line node
-
-abbrev pub isSome : Option Motor → Bool
-isSome none = false
-isSome (some m) = true
+-- A frame from a line.
+abbrev pub filedOf : List Motor → ℕ → ℕ → List ℕ → Next
+filedOf run count line b = filingOf entered run count (reportOf line b)
 
 -- What is not found is none.
 pub is-none : (f : Option Motor) → not (isSome f) ≡ true → f ≡ none
@@ -95,9 +93,10 @@ strikeTable run count line node =
     ∷ refusing run Refusal.NotHeld when nothing (found run count line node)
     ∷ []
 
--- The first reason that applies, or the records without the motor.
+-- The first reason that applies, or the records without the motor: the gap is closed.
 unfoldable pub struckOf : List Motor → ℕ → ℕ → ℕ → Next
-struckOf run count line node = decide (strikeTable run count line node) (keeping (without (held run count) line node))
+struckOf run count line node =
+    decide (strikeTable run count line node) (keeping (without byLineAndNode (held run count) (line, node)))
 
 -- The count after a call: the answer's, or the one before.
 abbrev pub countAfter : ℕ → Answer → ℕ

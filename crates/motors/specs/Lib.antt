@@ -1,7 +1,8 @@
+pub mod Order
 pub mod Motor
 pub mod Register
 pub mod Report
-pub mod Places
 pub mod Filing
-pub mod Survey
+pub mod Passing
+pub mod Found
 pub mod Edit

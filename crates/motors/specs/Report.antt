@@ -1,6 +1,7 @@
 -- What a frame from a line reports (document 01, "The register", rows 1 to 6 and 20 to 23).
 -- Assumes nothing.
 use Prim.Native.Nat.{ℕ}
+use mathlib.Core.Bool.{Bool, false}
 use mathlib.Core.List.{List, [], _∷_}
 use lib.Dec.{eqb}
 use lib.ListN.{getD}
@@ -15,7 +16,7 @@ use Rattle.frame.specs.Reading.{readingOf}
 use Rattle.frame.specs.declared.header.Header.{Header}
 use Rattle.frame.specs.declared.reading.Reading.{Reading}
 use Rattle.frame.specs.declared.reading.Reading.the-variants as reading
-use Rattle.motors.specs.Motor.{unread, withReading, aNode, aReading}
+use Rattle.motors.specs.Motor.{unread, withReading, zeros, marked, aNode, aReading}
 use Rattle.motors.specs.declared.motor.Motor.{Motor}
 use Rattle.motors.specs.declared.report.Report.{Report}
 use Rattle.motors.specs.declared.report.Report.the-variants.{Seen, Refused}
@@ -60,3 +61,12 @@ reportBy line b (reading.Refused r) = Refused r
 
 abbrev pub reportOf : ℕ → List ℕ → Report
 reportOf line b = reportBy line b (readingOf b)
+
+-- The motor that a report is about, and whether it has a reading.
+abbrev pub subjectOf : Report → Motor
+subjectOf (Seen m) = m
+subjectOf (Refused r) = zeros
+
+abbrev pub showsReading : Report → Bool
+showsReading (Seen m) = marked m
+showsReading (Refused r) = false

@@ -8,7 +8,10 @@ pub enum Answer {
     Refused(Refusal),
 }
 
+// The places of a register.
+pub const PLACES: usize = 256;
+
 pub struct Next {
-    pub motors: [Motor; 256],
+    pub motors: [Motor; PLACES],
     pub answer: Answer,
 }

@@ -9,7 +9,7 @@ use frame::Reading;
 use refusal::Refusal;
 ghost use mathlib.Core.Path.{_≡_};
 ghost use Rattle.frame.specs.Layout.{dataOf};
-ghost use Rattle.motors.specs.Report.{reportOf, reported};
+ghost use Rattle.motors.specs.Report.{reportOf, reported, subjectOf, showsReading};
 
 pub enum Report {
     // A motor as the frame shows it, with its reading if the frame has one.
@@ -37,7 +37,7 @@ pub fn read_report(line: u8, bundle: &[u8]) -> Report
 fn framed(line: u8, header: Header, count: usize, bundle: &[u8]) -> Report
     ensures { λ r. ⌜ r ≡ reported line header count (dataOf (now (bundle .entry))) ⌝ }
 {
-    if !is_line(line) {
+    if !is_line(line as u32) {
         return Report::Refused(Refusal::NoSuchLine);
     }
     let source = header.source;
@@ -64,11 +64,31 @@ fn framed(line: u8, header: Header, count: usize, bundle: &[u8]) -> Report
         return Report::Refused(Refusal::BadReading);
     }
     Report::Seen(Motor {
-        line: line,
         node: node,
-        reading: true,
+        line: line as u32,
+        mark: 1,
         pulse: frame::word(frame::data_byte(bundle, 0), frame::data_byte(bundle, 1)),
         percent: percent,
         ip: ip,
     })
+}
+
+// The motor that a report is about.
+pub fn subject(report: Report) -> Motor
+    ensures { λ r. ⌜ r ≡ subjectOf report ⌝ }
+{
+    match report {
+        Report::Seen(motor) => motor,
+        Report::Refused(_) => unread(0, 0),
+    }
+}
+
+// Whether it has a reading.
+pub fn shows_reading(report: Report) -> bool
+    ensures { λ r. ⌜ r ≡ showsReading report ⌝ }
+{
+    match report {
+        Report::Seen(motor) => motor.mark == 1,
+        Report::Refused(_) => false,
+    }
 }

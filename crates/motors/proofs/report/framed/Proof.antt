@@ -63,7 +63,9 @@ returns-6 c =
 
 returns-7 : tie.Need-returns-7
 returns-7 c =
-    let x = c .before .before .before .before .before .before .before .before .before .before .before .before .before .before .before .before .before .before .args in
+    let x =
+    c .before .before .before .before .before .before .before .before .before .before
+    .before .before .before .before .before .before .before .before .args in
     let d = dataOf (x .bundle .now) in
     let wrong =
     reading-missed d (c .before .before .before .data-byte .ensures) (c .before .before .data-byte2 .ensures) (c .before .is-reading .ensures)
@@ -73,7 +75,9 @@ returns-7 c =
 
 returns-8 : tie.Need-returns-8
 returns-8 c =
-    let x = c .before .before .before .before .before .before .before .before .before .before .before .before .before .before .before .before .before .before .before .before .before .args in
+    let x =
+    c .before .before .before .before .before .before .before .before .before .before .before
+    .before .before .before .before .before .before .before .before .before .before .args in
     let d = dataOf (x .bundle .now) in
     let percent = c .before .before .before .before .before .before .data-byte .ensures in
     let ip = c .before .before .before .before .before .data-byte2 .ensures in
