@@ -1,16 +1,44 @@
 -- Every public contract of the crate is determined, what stands in the lent buffer included.
 -- Assumes nothing.
-use mathlib.Core.Path.{_∙_, sym}
+use mathlib.Core.Path.{refl, _∙_, sym}
 use denote.Ref.{now}
 use Rattle.meaning.specs.Determined.{Once, OnceLent}
-use Rattle.form.proofs.reading.read.Kinds as read-kinds
-use Rattle.form.proofs.reading.read.Reads as read
-use Rattle.form.proofs.writing.write.Kinds as write-kinds
-use Rattle.form.proofs.writing.write.Reads as write
+use Rattle.form.proofs.reading.check.Kinds as check-kinds
+use Rattle.form.proofs.reading.check.Reads as check
+use Rattle.form.proofs.reading.place.Kinds as place-kinds
+use Rattle.form.proofs.reading.place.Reads as place
+use Rattle.form.proofs.reading.refuses.Kinds as refuses-kinds
+use Rattle.form.proofs.reading.refuses.Reads as refuses
+use Rattle.form.proofs.reading.counted.Kinds as counted-kinds
+use Rattle.form.proofs.reading.counted.Reads as counted
+use Rattle.form.proofs.writing.room.Kinds as room-kinds
+use Rattle.form.proofs.writing.room.Reads as room
+use Rattle.form.proofs.writing.is_refused.Kinds as is-refused-kinds
+use Rattle.form.proofs.writing.is_refused.Reads as is-refused
+use Rattle.form.proofs.writing.lay_head.Kinds as lay-head-kinds
+use Rattle.form.proofs.writing.lay_head.Reads as lay-head
+use Rattle.form.proofs.writing.lay_motor.Kinds as lay-motor-kinds
+use Rattle.form.proofs.writing.lay_motor.Reads as lay-motor
 
 pub record Determined : Type 0 where
-  pub read-once : Once read-kinds.ps read-kinds.r read.Post
-  pub write-once : OnceLent write-kinds.ps write-kinds.r write.Post (λ κs s. now (s .1 .1 .0))
+  pub check-once : Once check-kinds.ps check-kinds.r check.Post
+  pub place-once : Once place-kinds.ps place-kinds.r place.Post
+  pub refuses-once : Once refuses-kinds.ps refuses-kinds.r refuses.Post
+  pub counted-once : Once counted-kinds.ps counted-kinds.r counted.Post
+  pub room-once : Once room-kinds.ps room-kinds.r room.Post
+  pub is-refused-once : Once is-refused-kinds.ps is-refused-kinds.r is-refused.Post
+  pub lay-head-once : OnceLent lay-head-kinds.ps lay-head-kinds.r lay-head.Post (λ κs s. now (s .0))
+  pub lay-motor-once : OnceLent lay-motor-kinds.ps lay-motor-kinds.r lay-motor.Post (λ κs s. now (s .0))
 
 pub determined : Determined
-determined = record { read-once = λ κs a x y s t p q. p ∙ sym q; write-once = λ κs a x y s t p q. (p .0 ∙ sym (q .0), p .1 ∙ sym (q .1)) }
+determined =
+    record {
+      check-once = λ κs a x y s t p q. p ∙ sym q;
+      place-once = λ κs a x y s t p q. p ∙ sym q;
+      refuses-once = λ κs a x y s t p q. p ∙ sym q;
+      counted-once = λ κs a x y s t p q. p ∙ sym q;
+      room-once = λ κs a x y s t p q. p ∙ sym q;
+      is-refused-once = λ κs a x y s t p q. p ∙ sym q;
+      lay-head-once = λ κs a x y s t p q. (refl, p ∙ sym q);
+      lay-motor-once = λ κs a x y s t p q. (refl, p ∙ sym q);
+    }

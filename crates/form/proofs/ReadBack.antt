@@ -1,138 +1,174 @@
--- What is written of a sound register is read back as it was.
+-- A form written of right motors in ascending order has them at their places, and is accepted: for every shape whose bodies are faithful.
 -- Assumes nothing.
-use Prim.Native.Nat.{ℕ, _+_, _*_, _/_, _%_, _≤_, _<_}
+use Prim.Native.Nat.{ℕ, zero, suc, _+_, _*_, _≤_, _<_}
 use native.Mathlib.Omega.{arith}
-use mathlib.Core.Path.{_≡_, refl, _∙_, sym, ap, ap₂}
-use mathlib.Core.Bool.{Bool, true, false}
-use mathlib.Core.List.{List, [], _∷_, _++_, append-assoc}
-use lib.Dec.{eqb}
-use lib.ListN.{length, getD, drop}
-use borrow.Author.Tests.{eqb-true, eq-eqb}
-use Rattle.meaning.specs.Cases.{by-test, passed-both}
-use Rattle.meaning.specs.Choice.{if_then_else_, either}
-use Rattle.frame.specs.Address.{address, addressOf, bytesOf}
+use mathlib.Core.Path.{_≡_, refl, _∙_, sym, ap}
+use mathlib.Core.Bool.{true}
+use mathlib.Core.List.{List, [], _++_, append-nil}
+use lib.ListN.{length, getD, take, drop}
+use lib.Seq.{drop-at, drop-drop, ext-getD}
+use borrow.Author.Tests.{eq-eqb}
+use Rattle.frame.specs.Address.{address}
 use Rattle.frame.specs.declared.address.Address.{Address}
 use Rattle.frame.proofs.Addresses.{address-of-its-bytes}
-use Rattle.motors.specs.Motor.{motor, unread, isLine, aNode, isNode, isReading, unreadPart, earlierOf, rightOf, followsOf}
+use Rattle.runs.specs.Ordered.{Ascending, All}
+use Rattle.runs.proofs.ByPlace.{earlier-place-is-before, all-exactly-when-by-place}
+use Rattle.motors.specs.Motor.{zeros, isLine, isNode}
+use Rattle.motors.specs.Order.{byLineAndNode, earlierOf}
+use Rattle.motors.specs.Register.{places, Right}
+use Rattle.motors.specs.declared.answer.Answer.the-variants.{Count}
 use Rattle.motors.specs.declared.motor.Motor.{Motor}
-use Rattle.motors.specs.Register.{InOrder}
+use Rattle.form.specs.Shape.{Shape, Faithful}
 use Rattle.form.specs.Layout.{
-  entryBytes,
-  bodyBytes,
+  headSize,
+  entrySize,
+  formLength,
+  entryPlace,
+  bodyPlace,
+  entryOf,
+  bodyOf,
   contentsOf,
   bodiesOf,
-  entryOf,
+  formOf,
+  countIn,
+  entryIn,
+  lineIn,
+  nodeIn,
+  pointerIn,
+  bodyIn,
+  motorIn,
+  previousIn,
+  entryBehind,
   entryRight,
-  contentsRight,
   bodyRight,
+  contentsRight,
   bodiesRight,
-  motorOf,
-  motorsOf,
-  TwoBytePulses,
+  motorsIn,
 }
+use Rattle.form.specs.Reading.{checked}
+use Rattle.form.proofs.Everywhere.{right-at-each, length-listed, listed-at}
+use Rattle.form.proofs.Turns.{one-in-turn}
+use Rattle.form.proofs.Laying.{length-contents, length-form}
+use Rattle.form.proofs.Right.{line-right, node-right, line-small, node-small, behind-zeros}
+use Rattle.form.proofs.Rows.{checked-by}
 
--- ---- what a right record says
-module _ (m : Motor) (right : rightOf m ≡ true) where
-  line-right : isLine (m .line) ≡ true
-  unfolding rightOf
-  line-right = passed-both (isLine (m .line)) _ right .0
+-- A line, a NodeID and a body that are the same.
+same-at : {A : Type 0} (g : (line node : ℕ) → List ℕ → A) {line line′ node node′ : ℕ} {d d′ : List ℕ} → line ≡ line′ → node ≡ node′ → d ≡ d′
+    → g line node d ≡ g line′ node′ d′
+same-at g e h k = rw (e, h, k)
 
-  node-right : isNode (m .node) ≡ true
-  unfolding rightOf
-  node-right = passed-both (isNode (m .node)) _ (passed-both (isLine (m .line)) _ right .1) .0
+right-entry : (s : Shape) (previous : Motor) (count : ℕ) (b : List ℕ) (i : ℕ) → isLine (lineIn b i) ≡ true → isNode (nodeIn b i) ≡ true
+    → earlierOf previous (motorIn s count b i) ≡ true → pointerIn b i ≡ bodyPlace s count i → entryBehind s previous count b i ≡ true
+unfolding entryBehind
+right-entry s previous count b i line node order place = rw (line, node, order) (eq-eqb (pointerIn b i) (bodyPlace s count i) place)
 
-  node-small : m .node ≤ 0xFFFFFF
-  unfolding isNode
-  node-small = omega (arith, aNode (m .node) .is-fact node-right .1)
+module _ (s : Shape) (Fits : Motor → Type 0) (f : Faithful s Fits) (l : List Motor) where
+  abbrev form : List ℕ
+  form = formOf s l
 
-  reading-part : (if m .reading then isReading (m .percent) (m .ip) else unreadPart m) ≡ true
-  unfolding rightOf
-  reading-part = passed-both (isNode (m .node)) _ (passed-both (isLine (m .line)) _ right .1) .1
+  abbrev count : ℕ
+  count = length l
 
-  reading-right : m .reading ≡ true → isReading (m .percent) (m .ip) ≡ true
-  reading-right t = rw t at reading-part
+  -- ---- the parts of the form
+  first-byte : getD form 0 0 ≡ s .firstByte
+  unfolding formOf
+  first-byte = refl
 
-  without-reading : m .reading ≡ false → m ≡ unread (m .line) (m .node)
-  unfolding unreadPart
-  without-reading t =
-      let u : unreadPart m ≡ true = rw t at reading-part in
-      let p = passed-both (eqb (m .pulse) 0) _ u in
-      let q = passed-both (eqb (m .percent) 0) _ (p .1) in
-      let pulse : m .pulse ≡ 0 = eqb-true _ _ (p .0) in
-      let percent : m .percent ≡ 0 = eqb-true _ _ (q .0) in
-      let ip : m .ip ≡ 0 = eqb-true _ _ (q .1) in
-      same-part t pulse percent ip
-    where
-      same-part : {r r′ : Bool} {a a′ b b′ c c′ : ℕ} → r ≡ r′ → a ≡ a′ → b ≡ b′ → c ≡ c′
-          → motor (m .line) (m .node) r a b c ≡ motor (m .line) (m .node) r′ a′ b′ c′
-      same-part e f g h = rw (e, f, g, h)
+  behind-the-head : drop headSize form ≡ contentsOf s count l ++ bodiesOf s l
+  unfolding formOf
+  behind-the-head = refl
 
-  -- the entry of a record is its line and NodeID
-  unread-follows : (p : Motor) → earlierOf p m ≡ true → followsOf p (unread (m .line) (m .node)) ≡ true
-  unfolding followsOf rightOf unreadPart earlierOf
-  unread-follows p e = rw (line-right, node-right) e
+  behind-the-contents : drop (entryPlace count) form ≡ bodiesOf s l ++ []
+  behind-the-contents =
+      sym (drop-drop (entrySize * count) headSize form)
+      ∙ ap (drop (entrySize * count)) behind-the-head
+      ∙ drop-at (contentsOf s count l) (bodiesOf s l) (entrySize * count) (length-contents s (f .of-one-size) count l)
+      ∙ sym (append-nil (bodiesOf s l))
 
--- ---- one entry, one body, whatever stands behind
-module _ (m : Motor) (right : rightOf m ≡ true) (place : ℕ) (rest : List ℕ) where
-  entry-back : entryOf (entryBytes m place ++ rest) ≡ unread (m .line) (m .node)
-  entry-back = ap (λ (a : Address). unread (m .line) (a .0)) (address-of-its-bytes (address (m .node)) (node-small m right))
+  module _ (i : ℕ) (h : i < length l) where
+    abbrev m : Motor
+    m = getD l i zeros
 
-  entry-right-back : (p : Motor) → earlierOf p m ≡ true → entryRight p place (entryBytes m place ++ rest) ≡ true
-  unfolding entryRight
-  entry-right-back p e =
-      let two : place % 256 + 256 * (place / 256) ≡ place = omega arith in
-      rw (entry-back, unread-follows m right p e, two) (eq-eqb place place refl)
+    entry-is : entryIn form i ≡ entryOf s count i m
+    entry-is =
+        let start : 0 + i ≡ i = omega arith in
+        ap (take entrySize) (sym (drop-drop (entrySize * i) headSize form) ∙ ap (drop (entrySize * i)) behind-the-head)
+        ∙ one-in-turn (entryOf s count) entrySize (λ i m. refl) 0 i l (bodiesOf s l) h
+        ∙ ap (λ (k : ℕ). entryOf s count k m) start
 
-module _ (m : Motor) (right : rightOf m ≡ true) (rest : List ℕ) where
-  body-right-back : bodyRight (bodyBytes m ++ rest) ≡ true
-  unfolding bodyRight
-  body-right-back = by-test (m .reading) (λ t. rw t (reading-right m right t)) (λ t. rw t)
+    body-is : bodyIn s count form i ≡ s .bodyOf m
+    body-is =
+        ap (take (s .bodySize)) (sym (drop-drop (s .bodySize * i) (entryPlace count) form) ∙ ap (drop (s .bodySize * i)) behind-the-contents)
+        ∙ one-in-turn (bodyOf s) (s .bodySize) (λ i m. f .of-one-size m) 0 i l [] h
 
-  motor-back : (place : ℕ) (after : List ℕ) → m .pulse < 65536 → motorOf (entryBytes m place ++ after) (bodyBytes m ++ rest) ≡ m
-  motor-back place after small =
-      by-test (m .reading)
-      (λ t.
-      let two : m .pulse % 256 + 256 * (m .pulse / 256) ≡ m .pulse = omega arith in
-      rw (t, node-back, two))
-      (λ t.
-      let entry : motorOf (entryBytes m place ++ after) (bodyBytes m ++ rest) ≡ unread (m .line) (m .node) = rw (t, node-back) in
-      entry ∙ sym (without-reading m right t))
-    where
-      node-back : addressOf (getD (bytesOf (address (m .node))) 0 0) (getD (bytesOf (address (m .node))) 1 0)
-          (getD (bytesOf (address (m .node))) 2 0) .0 ≡ m .node
-      node-back = ap (λ (a : Address). a .0) (address-of-its-bytes (address (m .node)) (node-small m right))
+    module _ (right : Right (getD l i zeros)) where
+      line-is : lineIn form i ≡ m .line
+      line-is = ap (λ (c : List ℕ). getD c 0 0) entry-is ∙ omega (arith, line-small m right)
 
--- ---- all of them
-behind : (m : Motor) (rest : List ℕ) → drop 5 (bodyBytes m ++ rest) ≡ rest
-behind m rest = either (λ (w : List ℕ). drop 5 (w ++ rest) ≡ rest) (m .reading) (λ t. refl) (λ t. refl)
+      node-is : nodeIn form i ≡ m .node
+      node-is = rw entry-is (ap (λ (a : Address). a .0) (address-of-its-bytes (address (m .node)) (node-small m right)))
 
-same-behind : (m : Motor) (l : List Motor) → InOrder m l → InOrder (unread (m .line) (m .node)) l
-unfolding earlierOf
-same-behind m [] o = tt
-same-behind m (x ∷ l) o = o
+      pointer-is : pointerIn form i ≡ bodyPlace s count i
+      pointer-is = rw entry-is (omega arith)
 
-pub contents-back : (p : Motor) (place : ℕ) (l : List Motor) (rest : List ℕ) → InOrder p l
-    → contentsRight p place (length l) (contentsOf place l ++ rest) ≡ true
-unfolding contentsRight contentsOf
-contents-back p place [] rest o = refl
-contents-back p place (m ∷ l) rest o =
-    rw (
-      entry-right-back m (o .0) place (contentsOf (place + 5) l ++ rest) p (o .1),
-      entry-back m (o .0) place (contentsOf (place + 5) l ++ rest),
-    ) (contents-back (unread (m .line) (m .node)) (place + 5) l rest (same-behind m l (o .2)))
+      motor-is : Fits m → motorIn s count form i ≡ m
+      motor-is fits = same-at (s .motorOf) line-is node-is body-is ∙ f .the-motor-again m right fits
 
-pub bodies-back : (p : Motor) (l : List Motor) (rest : List ℕ) → InOrder p l → bodiesRight (length l) (bodiesOf l ++ rest) ≡ true
-unfolding bodiesRight bodiesOf
-bodies-back p [] rest o = refl
-bodies-back p (m ∷ l) rest o =
-    rw (append-assoc (bodyBytes m) (bodiesOf l) rest, body-right-back m (o .0) (bodiesOf l ++ rest), behind m (bodiesOf l ++ rest))
-    (bodies-back m l rest (o .2))
+      body-right : bodyRight s count form i ≡ true
+      body-right = same-at (s .isBody) line-is node-is body-is ∙ f .right-where-the-motor-is m right
 
-pub motors-back : (p : Motor) (place : ℕ) (l : List Motor) (after rest : List ℕ) → InOrder p l → TwoBytePulses l
-    → motorsOf (length l) (contentsOf place l ++ after) (bodiesOf l ++ rest) ≡ l
-unfolding motorsOf contentsOf bodiesOf
-motors-back p place [] after rest o w = refl
-motors-back p place (m ∷ l) after rest o w =
-    rw (append-assoc (bodyBytes m) (bodiesOf l) rest, behind m (bodiesOf l ++ rest))
-    (ap₂ _∷_ (motor-back m (o .0) (bodiesOf l ++ rest) place (contentsOf (place + 5) l ++ after) (w .0))
-    (motors-back m (place + 5) l after rest (o .2) (w .1)))
+      entry-right : Fits m → earlierOf (previousIn s count form i) m ≡ true → entryRight s count form i ≡ true
+      entry-right fits earlier =
+          right-entry s (previousIn s count form i) count form i (ap isLine line-is ∙ line-right m right) (ap isNode node-is ∙ node-right m right)
+          (ap (earlierOf (previousIn s count form i)) (motor-is fits) ∙ earlier) pointer-is
+
+  module _ (few : length l ≤ places) (all : All Right l) (ascends : Ascending byLineAndNode l) (fit : All Fits l) where
+    right-here : (i : ℕ) → i < length l → Right (getD l i zeros)
+    right-here i h = all-exactly-when-by-place Right zeros l .0 all i h
+
+    fits-here : (i : ℕ) → i < length l → Fits (getD l i zeros)
+    fits-here i h = all-exactly-when-by-place Fits zeros l .0 fit i h
+
+    motor-here : (i : ℕ) → i < length l → motorIn s count form i ≡ getD l i zeros
+    motor-here i h = motor-is i h (right-here i h) (fits-here i h)
+
+    in-order : (i : ℕ) → i < length l → earlierOf (previousIn s count form i) (getD l i zeros) ≡ true
+    in-order zero h = behind-zeros (getD l 0 zeros) (right-here 0 h)
+    in-order (suc i) h =
+        rw (motor-here i (omega arith)) (earlier-place-is-before byLineAndNode zeros l ascends i (suc i) (omega arith) h)
+
+    pub count-back : countIn form ≡ length l
+    unfolding formOf
+    count-back = omega arith
+
+    contents-back : contentsRight s count form ≡ true
+    contents-back =
+        right-at-each (entryRight s count form) count
+        (λ i h. entry-right i h (right-here i h) (fits-here i h) (in-order i h))
+
+    bodies-back : bodiesRight s count form ≡ true
+    bodies-back = right-at-each (bodyRight s count form) count (λ i h. body-right i h (right-here i h))
+
+    pub accepted-back : checked s places form ≡ Count (countIn form)
+    accepted-back =
+        sym (checked-by s places form 6 (
+          refl,
+          (
+            (omega (arith, length-form s (f .of-one-size) l), first-byte),
+            (
+              omega (arith, count-back),
+              (
+                length-form s (f .of-one-size) l ∙ ap (formLength s) (sym count-back),
+                (rw count-back contents-back, (rw count-back bodies-back, tt)),
+              ),
+            ),
+          ),
+        ))
+
+    pub motors-back : motorsIn s form ≡ l
+    motors-back =
+        rw count-back
+        (ext-getD zeros _ l (length-listed (motorIn s count form) 0 count) λ i h.
+        let k : i < length l = omega (arith, h, length-listed (motorIn s count form) 0 count) in
+        let start : 0 + i ≡ i = omega arith in
+        listed-at (motorIn s count form) 0 count i zeros k ∙ ap (motorIn s count form) start ∙ motor-here i k)

@@ -1,171 +1,190 @@
--- The motors read from a form that is accepted are right and in order, and written they give its own bytes.
+-- The motors of a form that is accepted are right and in ascending order, and written they give its own bytes: for every shape whose bodies are
+-- faithful.
 -- Assumes nothing.
-use Prim.Native.Nat.{ℕ, zero, suc, _+_, _*_, _/_, _%_, _≤_}
+use Prim.Native.Nat.{ℕ, suc, _+_, _*_, _/_, _%_, _≤_, _<_}
 use native.Mathlib.Omega.{arith}
-use mathlib.Core.Path.{_≡_, refl, _∙_, sym, ap}
-use mathlib.Core.Bool.{true, false}
-use mathlib.Core.List.{List, [], _∷_, _++_, append-assoc}
+use native.Mathlib.Nat.{mul-zero}
+use mathlib.Core.Path.{_≡_, _∙_, sym, ap, ap₂}
+use mathlib.Core.Bool.{true}
+use mathlib.Core.List.{List, [], _∷_, _++_}
 use lib.Dec.{eqb}
-use lib.ListN.{length, getD, drop, length-drop}
-use lib.Seq.{drop-cons, drop-drop}
+use lib.ListN.{length, getD, take, drop, length-drop, take-append-drop}
+use lib.Seq.{take-all, length-take-le, getD-take, drop-drop}
 use borrow.Author.Tests.{eqb-true}
-use Rattle.meaning.specs.Cases.{by-test, passed-both}
-use Rattle.meaning.specs.Bytes.{Bytes, drop-bytes}
-use Rattle.frame.proofs.Addresses.{low-byte, middle-byte, high-byte}
-use Rattle.motors.specs.Motor.{isLine, isNode, unreadPart, earlierOf, rightOf, followsOf}
+use Rattle.meaning.specs.Bytes.{Bytes, take-bytes, drop-bytes}
+use Rattle.meaning.specs.Cases.{passed-both}
+use Rattle.frame.specs.Address.{address, addressOf, bytesOf}
+use Rattle.frame.specs.Words.{bytesOfWord, wordAt}
+use Rattle.frame.proofs.Addresses.{bytes-of-their-address}
+use Rattle.runs.specs.Ordered.{Ascending, All}
+use Rattle.runs.proofs.ByPlace.{before-the-next-ascends, all-exactly-when-by-place}
+use Rattle.motors.specs.Motor.{zeros, isLine, isNode}
+use Rattle.motors.specs.Order.{byLineAndNode, earlierOf}
+use Rattle.motors.specs.Register.{Right}
 use Rattle.motors.specs.declared.motor.Motor.{Motor}
-use Rattle.motors.specs.Register.{InOrder}
-use Rattle.frame.specs.Words.{wordAt}
+use Rattle.form.specs.Shape.{Shape, Faithful}
 use Rattle.form.specs.Layout.{
-  entryBytes,
-  bodyBytes,
+  headSize,
+  entrySize,
+  entryPlace,
+  bodyPlace,
+  headBytes,
+  entryOf,
+  bodyOf,
   contentsOf,
   bodiesOf,
-  entryOf,
+  formOf,
+  part,
+  countIn,
+  entryIn,
+  lineIn,
+  nodeIn,
+  pointerIn,
+  bodyIn,
+  motorIn,
+  previousIn,
+  entryBehind,
   entryRight,
-  contentsRight,
   bodyRight,
-  bodiesRight,
-  motorOf,
-  motorsOf,
+  motorsIn,
 }
+use Rattle.form.proofs.Everywhere.{right-at, length-listed, listed-at}
+use Rattle.form.proofs.Spelled.{bytesFrom, spelled}
+use Rattle.form.proofs.Turns.{all-in-turn}
+use Rattle.form.proofs.Laying.{form-ends-behind-the-last-body, body-within}
+use Rattle.form.proofs.Accepted.{Accepted}
 
--- ---- the first bytes of a list, one by one
-module _ (l : List ℕ) where
-  pub three-bytes : 3 ≤ length l → l ≡ getD l 0 0 ∷ getD l 1 0 ∷ getD l 2 0 ∷ drop 3 l
-  three-bytes h =
-      drop-cons l 0 0 (omega arith)
-      ∙ ap (λ (r : List ℕ). getD l 0 0 ∷ r) (drop-cons l 1 0 (omega arith))
-      ∙ ap (λ (r : List ℕ). getD l 0 0 ∷ getD l 1 0 ∷ r) (drop-cons l 2 0 (omega arith))
+-- ---- an entry that is right
+module _ (s : Shape) (count : ℕ) (b : List ℕ) (i : ℕ) (right : entryRight s count b i ≡ true) where
+  line-right : isLine (lineIn b i) ≡ true
+  unfolding entryBehind
+  line-right = passed-both (isLine (lineIn b i)) _ right .0
 
-  five-bytes : 5 ≤ length l → l ≡ getD l 0 0 ∷ getD l 1 0 ∷ getD l 2 0 ∷ getD l 3 0 ∷ getD l 4 0 ∷ drop 5 l
-  five-bytes h =
-      three-bytes (omega arith)
-      ∙ ap (λ (r : List ℕ). getD l 0 0 ∷ getD l 1 0 ∷ getD l 2 0 ∷ r) (drop-cons l 3 0 (omega arith))
-      ∙ ap (λ (r : List ℕ). getD l 0 0 ∷ getD l 1 0 ∷ getD l 2 0 ∷ getD l 3 0 ∷ r) (drop-cons l 4 0 (omega arith))
+  node-right : isNode (nodeIn b i) ≡ true
+  unfolding entryBehind
+  node-right = passed-both (isNode (nodeIn b i)) _ (passed-both (isLine (lineIn b i)) _ right .1) .0
 
-  six-bytes : 6 ≤ length l → l ≡ getD l 0 0 ∷ getD l 1 0 ∷ getD l 2 0 ∷ getD l 3 0 ∷ getD l 4 0 ∷ getD l 5 0 ∷ drop 6 l
-  six-bytes h =
-      five-bytes (omega arith)
-      ∙ ap (λ (r : List ℕ). getD l 0 0 ∷ getD l 1 0 ∷ getD l 2 0 ∷ getD l 3 0 ∷ getD l 4 0 ∷ r) (drop-cons l 5 0 (omega arith))
+  order-and-place : (earlierOf (previousIn s count b i) (motorIn s count b i) ≡ true) × (eqb (pointerIn b i) (bodyPlace s count i) ≡ true)
+  unfolding entryBehind
+  order-and-place =
+      passed-both (earlierOf (previousIn s count b i) (motorIn s count b i)) _
+      (passed-both (isNode (nodeIn b i)) _ (passed-both (isLine (lineIn b i)) _ right .1) .1)
 
--- ---- one entry and one body
-module _ (c d : List ℕ) where
-  same-line : motorOf c d .line ≡ entryOf c .line
-  same-line = by-test (eqb (getD d 0 0) 1) (λ t. rw t) (λ t. rw t)
+-- ---- a part of bytes is bytes, and as long as it says
+module _ (size at : ℕ) (b : List ℕ) where
+  part-bytes : Bytes b → Bytes (part size at b)
+  part-bytes bytes = take-bytes size (drop at b) (drop-bytes at b bytes)
 
-  same-node : motorOf c d .node ≡ entryOf c .node
-  same-node = by-test (eqb (getD d 0 0) 1) (λ t. rw t) (λ t. rw t)
+  part-size : at + size ≤ length b → length (part size at b) ≡ size
+  part-size h = length-take-le size (drop at b) (rw length-drop (omega arith))
 
-  -- the fields are right where the entry follows and the body is right
-  motor-right : (p : Motor) → followsOf p (entryOf c) ≡ true → bodyRight d ≡ true → rightOf (motorOf c d) ≡ true
-  unfolding followsOf rightOf bodyRight unreadPart
-  motor-right p f r =
-      let e = passed-both (rightOf (entryOf c)) _ f .0 in
-      let l = passed-both (isLine (entryOf c .line)) _ e in
-      let n = passed-both (isNode (entryOf c .node)) _ (l .1) in
-      by-test (eqb (getD d 0 0) 1) (λ t. rw (t, l .0, n .0) (rw t at r)) (λ t. rw (t, l .0, n .0))
+-- ---- numbers taken apart again
+three-same : {x x′ y y′ z z′ : ℕ} → x ≡ x′ → y ≡ y′ → z ≡ z′ → x ∷ y ∷ z ∷ [] ≡ x′ ∷ y′ ∷ z′ ∷ []
+three-same e f g = rw (e, f, g)
 
-  motor-later : (p : Motor) → followsOf p (entryOf c) ≡ true → earlierOf p (motorOf c d) ≡ true
-  unfolding followsOf earlierOf
-  motor-later p f = rw (same-line, same-node) (passed-both (rightOf (entryOf c)) _ f .1)
+abbrev entryFrom : (line node place : ℕ) → List ℕ
+entryFrom line node place = line % 256 ∷ (bytesOf (address node) ++ bytesOfWord place)
 
-  module _ (cb : Bytes c) (cl : 6 ≤ length c) where
-    entry-again : (place : ℕ) → wordAt c 4 ≡ place → entryBytes (motorOf c d) place ++ drop 6 c ≡ c
-    entry-again place e =
-        let low : wordAt c 4 % 256 ≡ getD c 4 0 = omega (arith, cb 4 (omega arith), cb 5 (omega arith)) in
-        let high : wordAt c 4 / 256 ≡ getD c 5 0 = omega (arith, cb 4 (omega arith), cb 5 (omega arith)) in
-        rw (
-          same-line,
-          same-node,
-          ← e,
-          low,
-          high,
-          low-byte (getD c 1 0) (getD c 2 0) (getD c 3 0) (cb 1 (omega arith)) (cb 2 (omega arith)) (cb 3 (omega arith)),
-          middle-byte (getD c 1 0) (getD c 2 0) (getD c 3 0) (cb 1 (omega arith)) (cb 2 (omega arith)) (cb 3 (omega arith)),
-          high-byte (getD c 1 0) (getD c 2 0) (getD c 3 0) (cb 1 (omega arith)) (cb 2 (omega arith)) (cb 3 (omega arith)),
-        ) (sym (six-bytes c cl))
+entry-same : {line line′ node node′ place place′ : ℕ} → line ≡ line′ → node ≡ node′ → place ≡ place′
+    → entryFrom line node place ≡ entryFrom line′ node′ place′
+entry-same e f g = rw (e, f, g)
 
-  module _ (db : Bytes d) (dl : 5 ≤ length d) where
-    five-zeros : bodyRight d ≡ true → eqb (getD d 0 0) 1 ≡ false → 0 ∷ 0 ∷ 0 ∷ 0 ∷ 0 ∷ drop 5 d ≡ d
-    unfolding bodyRight
-    five-zeros r t =
-        let a = passed-both (eqb (getD d 0 0) 0) _ (rw t at r) in
-        let b = passed-both (eqb (getD d 1 0) 0) _ (a .1) in
-        let c = passed-both (eqb (getD d 2 0) 0) _ (b .1) in
-        let e = passed-both (eqb (getD d 3 0) 0) _ (c .1) in
-        sym (five-bytes d dl ∙ rw (
-          eqb-true (getD d 0 0) 0 (a .0),
-          eqb-true (getD d 1 0) 0 (b .0),
-          eqb-true (getD d 2 0) 0 (c .0),
-          eqb-true (getD d 3 0) 0 (e .0),
-          eqb-true (getD d 4 0) 0 (e .1),
-        ))
+entry-of-bytes : (c : List ℕ) → ((k : ℕ) → k < entrySize → getD c k 0 < 256)
+    → entryFrom (getD c 0 0) (addressOf (getD c 1 0) (getD c 2 0) (getD c 3 0) .0) (wordAt c 4) ≡ bytesFrom c 0 entrySize
+entry-of-bytes c byte =
+    let line : getD c 0 0 % 256 ≡ getD c 0 0 = omega (arith, byte 0 (omega arith)) in
+    let low : wordAt c 4 % 256 ≡ getD c 4 0 = omega (arith, byte 4 (omega arith), byte 5 (omega arith)) in
+    let high : wordAt c 4 / 256 ≡ getD c 5 0 = omega (arith, byte 4 (omega arith), byte 5 (omega arith)) in
+    rw (line, low, high)
+    (ap (λ (w : List ℕ). getD c 0 0 ∷ (w ++ (getD c 4 0 ∷ getD c 5 0 ∷ [])))
+    (bytes-of-their-address (getD c 1 0) (getD c 2 0) (getD c 3 0) (byte 1 (omega arith)) (byte 2 (omega arith)) (byte 3 (omega arith))))
 
-    body-again : bodyRight d ≡ true → bodyBytes (motorOf c d) ++ drop 5 d ≡ d
-    body-again r =
-        by-test (eqb (getD d 0 0) 1)
-        (λ t.
-        let one : getD d 0 0 ≡ 1 = eqb-true _ _ t in
-        let low : wordAt d 1 % 256 ≡ getD d 1 0 = omega (arith, db 1 (omega arith), db 2 (omega arith)) in
-        let high : wordAt d 1 / 256 ≡ getD d 2 0 = omega (arith, db 1 (omega arith), db 2 (omega arith)) in
-        rw (t, low, high) (ap (λ (n : ℕ). n ∷ getD d 1 0 ∷ getD d 2 0 ∷ getD d 3 0 ∷ getD d 4 0 ∷ drop 5 d) (sym one) ∙ sym (five-bytes d dl)))
-        (λ t. rw t (five-zeros r t))
+module _ (s : Shape) (Fits : Motor → Type 0) (f : Faithful s Fits) (b : List ℕ) (n : ℕ) (a : Accepted s b n) where
+  abbrev count : ℕ
+  count = countIn b
 
--- ---- all of them
-module _ (p : Motor) (place : ℕ) (c : List ℕ) where
-  entry-facts : entryRight p place c ≡ true → (followsOf p (entryOf c) ≡ true) × (wordAt c 4 ≡ place)
-  unfolding entryRight
-  entry-facts r = let s = passed-both (followsOf p (entryOf c)) _ r in (s .0, eqb-true _ _ (s .1))
+  abbrev motorAt : ℕ → Motor
+  motorAt = motorIn s count b
 
-same-behind : (c d : List ℕ) (l : List Motor) → InOrder (entryOf c) l → InOrder (motorOf c d) l
-unfolding earlierOf
-same-behind c d [] o = tt
-same-behind c d (x ∷ l) o = (o .0, rw (same-line c d, same-node c d) (o .1), o .2)
+  abbrev motors : List Motor
+  motors = motorsIn s b
 
-pub motors-in-order : (p : Motor) (place count : ℕ) (c d : List ℕ) → contentsRight p place count c ≡ true → bodiesRight count d ≡ true
-    → InOrder p (motorsOf count c d)
-unfolding contentsRight bodiesRight motorsOf
-motors-in-order p place zero c d r s = tt
-motors-in-order p place (suc count) c d r s =
-    let e = passed-both (entryRight p place c) _ r in
-    let b = passed-both (bodyRight d) _ s in
-    let f = entry-facts p place c (e .0) .0 in (
-      motor-right c d p f (b .0),
-      motor-later c d p f,
-      same-behind c d (motorsOf count (drop 6 c) (drop 5 d)) (motors-in-order (entryOf c) (place + 5) count (drop 6 c) (drop 5 d) (e .1) (b .1)),
-    )
+  pub number : length motors ≡ count
+  number = length-listed motorAt 0 count
 
-pub contents-again : (p : Motor) (place count : ℕ) (c d : List ℕ) → Bytes c → 6 * count ≤ length c → contentsRight p place count c ≡ true
-    → contentsOf place (motorsOf count c d) ++ drop (6 * count) c ≡ c
-unfolding contentsRight motorsOf contentsOf
-contents-again p place zero c d cb cl r = refl
-contents-again p place (suc count) c d cb cl r =
-    let e = passed-both (entryRight p place c) _ r in
-    let place-is = entry-facts p place c (e .0) .1 in
-    let six : 6 + 6 * count ≡ 6 * suc count = omega arith in
-    let on = contents-again (entryOf c) (place + 5) count (drop 6 c) (drop 5 d) (drop-bytes 6 c cb) (rest c cl) (e .1) in
-    rw (← six, ← drop-drop (6 * count) 6 c)
-    (ap (λ (w : List ℕ). entryBytes (motorOf c d) place ++ w) on ∙ entry-again c d cb (omega arith) place place-is)
-  where
-    rest : (c : List ℕ) → 6 * suc count ≤ length c → 6 * count ≤ length (drop 6 c)
-    rest c h = simp length-drop (omega arith)
+  at-place : (i : ℕ) → i < count → getD motors i zeros ≡ motorAt i
+  at-place i h = let start : 0 + i ≡ i = omega arith in listed-at motorAt 0 count i zeros h ∙ ap motorAt start
 
-pub bodies-again : (count : ℕ) (c d : List ℕ) → Bytes d → 5 * count ≤ length d → bodiesRight count d ≡ true
-    → bodiesOf (motorsOf count c d) ++ drop (5 * count) d ≡ d
-unfolding bodiesRight motorsOf bodiesOf
-bodies-again zero c d db dl r = refl
-bodies-again (suc count) c d db dl r =
-    let b = passed-both (bodyRight d) _ r in
-    let five : 5 + 5 * count ≡ 5 * suc count = omega arith in
-    let on = bodies-again count (drop 6 c) (drop 5 d) (drop-bytes 5 d db) (rest d dl) (b .1) in
-    rw (
-      append-assoc (bodyBytes (motorOf c d)) (bodiesOf (motorsOf count (drop 6 c) (drop 5 d))) (drop (5 * suc count) d),
-      ← five,
-      ← drop-drop
-          (5 * count) 5 d,
-    )
-    (ap (λ (w : List ℕ). bodyBytes (motorOf c d) ++ w) on ∙ body-again c d db (omega arith) (b .0))
-  where
-    rest : (d : List ℕ) → 5 * suc count ≤ length d → 5 * count ≤ length (drop 5 d)
-    rest d h = simp length-drop (omega arith)
+  entry-right : (i : ℕ) → i < count → entryRight s count b i ≡ true
+  entry-right i h = right-at (entryRight s count b) count i (a .contents-right) h
+
+  body-right : (i : ℕ) → i < count → bodyRight s count b i ≡ true
+  body-right i h = right-at (bodyRight s count b) count i (a .bodies-right) h
+
+  -- ---- right and in order
+  pub motors-right : All Right motors
+  motors-right = all-exactly-when-by-place Right zeros motors .1 λ i h.
+      let k : i < count = omega (arith, h, number) in
+      rw (at-place i k)
+      (f .right-makes-the-motor-right (lineIn b i) (nodeIn b i) (bodyIn s count b i) (line-right s count b i (entry-right i k))
+      (node-right s count b i (entry-right i k)) (body-right i k))
+
+  pub motors-ascend : Ascending byLineAndNode motors
+  motors-ascend = before-the-next-ascends byLineAndNode zeros motors λ i h.
+      let k : suc i < count = omega (arith, h, number) in
+      rw (at-place i (omega arith), at-place (suc i) k) (order-and-place s count b (suc i) (entry-right (suc i) k) .0)
+
+  -- ---- the bytes again
+  module _ (bytes : Bytes b) where
+    long : length b ≡ bodyPlace s count count
+    long = a .as-long-as-it-says ∙ form-ends-behind-the-last-body s count
+
+    head-again : headBytes s (length motors) ≡ take headSize b
+    head-again =
+        let low : countIn b % 256 ≡ getD b 1 0 = omega (arith, bytes 1 (omega (arith, long)), bytes 2 (omega (arith, long))) in
+        let high : countIn b / 256 ≡ getD b 2 0 = omega (arith, bytes 1 (omega (arith, long)), bytes 2 (omega (arith, long))) in
+        ap (headBytes s) number
+        ∙ three-same (sym (a .begins-as-the-shape-says) ∙ sym (getD-take headSize b 0 0 (omega arith)))
+        (low ∙ sym (getD-take headSize b 1 0 (omega arith))) (high ∙ sym (getD-take headSize b 2 0 (omega arith)))
+        ∙ sym (spelled (take headSize b) headSize (length-take-le headSize b (omega (arith, long))))
+
+    entry-again : (i : ℕ) → i < count → entryOf s count i (motorAt i) ≡ entryIn b i
+    entry-again i h =
+        let c = entryIn b i in
+        let pointer = order-and-place s count b i (entry-right i h) .1 in
+        let within : entryPlace i + entrySize ≤ length b = omega (arith, body-within s count i h, a .as-long-as-it-says) in
+        let size : length (entryIn b i) ≡ entrySize = part-size entrySize (entryPlace i) b within in
+        let byte : (k : ℕ) → k < entrySize → getD (entryIn b i) k 0 < 256 =
+        λ k l. part-bytes entrySize (entryPlace i) b bytes k (omega (arith, size)) in
+        entry-same (f .of-the-same-line _ _ _) (f .of-the-same-node _ _ _) (sym (eqb-true (pointerIn b i) (bodyPlace s count i) pointer))
+        ∙ entry-of-bytes c byte ∙ sym (spelled c entrySize size)
+
+    body-again : (i : ℕ) → i < count → s .bodyOf (motorAt i) ≡ bodyIn s count b i
+    body-again i h =
+        let within : bodyPlace s count i + s .bodySize ≤ length b = omega (arith, body-within s count i h, a .as-long-as-it-says) in
+        f .the-body-again (lineIn b i) (nodeIn b i) (bodyIn s count b i) (part-bytes (s .bodySize) (bodyPlace s count i) b bytes)
+        (part-size (s .bodySize) (bodyPlace s count i) b within) (body-right i h)
+
+    contents-again : contentsOf s count motors ≡ take (entrySize * count) (drop headSize b)
+    contents-again =
+        all-in-turn (entryOf s count) motorAt entrySize (drop headSize b) 0 count
+        (λ i h k. entry-again i (omega arith) ∙ ap (take entrySize) (sym (drop-drop (entrySize * i) headSize b)))
+
+    bodies-again : bodiesOf s motors ≡ drop (entrySize * count) (drop headSize b)
+    bodies-again =
+        let rest : length (drop (entrySize * count) (drop headSize b)) ≡ s .bodySize * count = simp length-drop (omega (arith, long)) in
+        all-in-turn (bodyOf s) motorAt (s .bodySize) (drop (entrySize * count) (drop headSize b)) 0 count
+        (λ i h k. body-again i (omega arith) ∙ ap (take (s .bodySize)) (from-the-bodies i))
+        ∙ rw (mul-zero (s .bodySize)) (take-all (s .bodySize * count) (drop (entrySize * count) (drop headSize b)) (omega (arith, rest)))
+      where
+        from-the-bodies : (i : ℕ) → drop (bodyPlace s count i) b ≡ drop (s .bodySize * i) (drop (entrySize * count) (drop headSize b))
+        from-the-bodies i =
+            sym (ap (drop (s .bodySize * i)) (drop-drop (entrySize * count) headSize b) ∙ drop-drop (s .bodySize * i) (entryPlace count) b)
+
+    pub form-again : formOf s motors ≡ b
+    unfolding formOf
+    form-again =
+        ap (λ (k : ℕ). headBytes s (length motors) ++ (contentsOf s k motors ++ bodiesOf s motors)) number
+        ∙ ap₂ (λ (v w : List ℕ). v ++ w) head-again
+        (ap₂ (λ (v w : List ℕ). v ++ w) contents-again bodies-again ∙ take-append-drop (entrySize * count) (drop headSize b))
+        ∙ take-append-drop headSize b

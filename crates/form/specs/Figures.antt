@@ -11,10 +11,11 @@ use Rattle.motors.specs.Register.{found, filled, soundOf}
 use Rattle.motors.specs.Filing.{keeping}
 use Rattle.motors.specs.declared.motor.Motor.{Motor}
 use Rattle.form.specs.Layout.{formOf}
+use Rattle.form.specs.FormOne.{formOne}
 use Rattle.form.specs.Reading.{readOf}
 
 -- NodeID 05:04:03, as labels print it.
-abbrev node : ℕ
+abbrev pub node : ℕ
 node = addressOf 0x03 0x04 0x05 .0
 
 -- On line 0 with a reading, on line 1 without.
@@ -32,7 +33,7 @@ wholeFile =
 -- The whole file, written and read, and both motors found under line and NodeID.
 abbrev pub P11 : Type 0
 P11 =
-    (formOf twoMotors ≡ wholeFile)
+    (formOf formOne twoMotors ≡ wholeFile)
     × (readOf (filled []) wholeFile ≡ keeping twoMotors)
     × (soundOf (filled twoMotors) 2 ≡ true)
     × (found (filled twoMotors) 2 0 node ≡ some (withReading 0 node 333 33 0xFF))

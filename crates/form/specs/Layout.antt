@@ -1,82 +1,130 @@
--- Stored form 1 (document 01, "The register and its stored form"): 01h; count; contents, six bytes a motor; bodies in
--- that order, five bytes.
+-- Stored forms (document 01, "The register and its stored form"), over the shape of their bodies: a first byte; count;
+-- contents, an entry for each motor; bodies in that order.
 -- Assumes nothing.
-use Prim.Native.Nat.{ℕ, zero, suc, _+_, _*_, _<_}
+use Prim.Native.Nat.{ℕ, zero, suc, _+_, _*_, _%_}
 use mathlib.Core.Bool.{Bool, true, false}
 use mathlib.Core.List.{List, [], _∷_, _++_}
 use lib.Dec.{eqb}
-use lib.ListN.{length, getD, drop}
+use lib.ListN.{length, getD, take, drop}
 use Rattle.meaning.specs.Choice.{if_then_else_}
 use Rattle.frame.specs.Address.{address, addressOf, bytesOf}
 use Rattle.frame.specs.Words.{bytesOfWord, wordAt}
-use Rattle.motors.specs.Motor.{unread, withReading, isReading, followsOf}
+use Rattle.motors.specs.Motor.{zeros, isLine, isNode}
+use Rattle.motors.specs.Order.{earlierOf}
 use Rattle.motors.specs.declared.motor.Motor.{Motor}
+use Rattle.form.specs.Shape.{Shape}
+
+-- ---- sizes and places
+-- The first byte and the count.
+abbrev pub headSize : ℕ
+headSize = 3
+
+-- Line, NodeID, place of the body.
+abbrev pub entrySize : ℕ
+entrySize = 6
+
+abbrev pub formLength : Shape → ℕ → ℕ
+formLength s count = headSize + (entrySize + s .bodySize) * count
+
+-- Entries stand behind the head, and bodies behind the last entry, without holes.
+abbrev pub entryPlace : ℕ → ℕ
+entryPlace i = headSize + entrySize * i
+
+abbrev pub bodyPlace : Shape → (count i : ℕ) → ℕ
+bodyPlace s count i = entryPlace count + s .bodySize * i
 
 -- ---- as written
+abbrev pub headBytes : Shape → ℕ → List ℕ
+headBytes s count = s .firstByte ∷ bytesOfWord count
+
 -- An entry: line, NodeID, place of its body from the file's start.
 abbrev pub entryBytes : Motor → ℕ → List ℕ
-entryBytes m place = m .line ∷ (bytesOf (address (m .node)) ++ bytesOfWord place)
+entryBytes m place = m .line % 256 ∷ (bytesOf (address (m .node)) ++ bytesOfWord place)
 
--- A body: 1, pulse, percent, IP, or five zeros when no reading exists.
-abbrev pub bodyBytes : Motor → List ℕ
-bodyBytes m = if m .reading then 1 ∷ (bytesOfWord (m .pulse) ++ (m .percent ∷ m .ip ∷ [])) else 0 ∷ 0 ∷ 0 ∷ 0 ∷ 0 ∷ []
+-- The bytes of motors, one behind the other, from the motor of a place on.
+unfoldable pub inTurn : (ℕ → Motor → List ℕ) → ℕ → List Motor → List ℕ
+inTurn bytes i [] = []
+inTurn bytes i (m ∷ l) = bytes i m ++ inTurn bytes (suc i) l
 
--- Each body stands behind the one before it, without holes.
-unfoldable pub contentsOf : ℕ → List Motor → List ℕ
-contentsOf place [] = []
-contentsOf place (m ∷ l) = entryBytes m place ++ contentsOf (place + 5) l
+-- The entry and the body of the motor at a place.
+abbrev pub entryOf : Shape → ℕ → ℕ → Motor → List ℕ
+entryOf s count i m = entryBytes m (bodyPlace s count i)
 
-unfoldable pub bodiesOf : List Motor → List ℕ
-bodiesOf [] = []
-bodiesOf (m ∷ l) = bodyBytes m ++ bodiesOf l
+abbrev pub bodyOf : Shape → ℕ → Motor → List ℕ
+bodyOf s i m = s .bodyOf m
 
--- The first body stands behind the last entry.
-abbrev pub firstBody : ℕ → ℕ
-firstBody count = 3 + 6 * count
+abbrev pub contentsOf : Shape → ℕ → List Motor → List ℕ
+contentsOf s count l = inTurn (entryOf s count) 0 l
 
-abbrev pub formLength : ℕ → ℕ
-formLength count = 3 + 11 * count
+abbrev pub bodiesOf : Shape → List Motor → List ℕ
+bodiesOf s l = inTurn (bodyOf s) 0 l
 
-unfoldable pub formOf : List Motor → List ℕ
-formOf l = 1 ∷ (bytesOfWord (length l) ++ (contentsOf (firstBody (length l)) l ++ bodiesOf l))
+unfoldable pub formOf : Shape → List Motor → List ℕ
+formOf s l = headBytes s (length l) ++ (contentsOf s (length l) l ++ bodiesOf s l)
 
--- ---- as read, from the bytes of contents on and the bytes of bodies on
-abbrev pub entryOf : List ℕ → Motor
-entryOf c = unread (getD c 0 0) (addressOf (getD c 1 0) (getD c 2 0) (getD c 3 0) .0)
+-- ---- as read
+-- So many bytes from a place on.
+abbrev pub part : (size at : ℕ) → List ℕ → List ℕ
+part size at b = take size (drop at b)
 
--- Strictly ascending, line and sender as in rows 20 and 21, its body at the next place.
-unfoldable pub entryRight : Motor → ℕ → List ℕ → Bool
-entryRight previous place c = if followsOf previous (entryOf c) then eqb (wordAt c 4) place else false
+-- The count stands behind the first byte.
+abbrev pub countIn : List ℕ → ℕ
+countIn b = wordAt b 1
 
-unfoldable pub contentsRight : Motor → ℕ → ℕ → List ℕ → Bool
-contentsRight previous place zero c = true
-contentsRight previous place (suc count) c =
-    if entryRight previous place c then contentsRight (entryOf c) (place + 5) count (drop 6 c) else false
+-- The entry of a place, and the line, the NodeID and the place of the body that it has.
+abbrev pub entryIn : List ℕ → ℕ → List ℕ
+entryIn b i = part entrySize (entryPlace i) b
 
--- 1 and a reading as in row 23, or five zeros.
-unfoldable pub bodyRight : List ℕ → Bool
-bodyRight d =
-    if eqb (getD d 0 0) 1 then isReading (getD d 3 0) (getD d 4 0) else
-    if eqb (getD d 0 0) 0 then
-    if eqb (getD d 1 0) 0 then
-    if eqb (getD d 2 0) 0 then
-    if eqb (getD d 3 0) 0 then eqb (getD d 4 0) 0
-    else false else false else false else false
+abbrev pub lineIn : List ℕ → ℕ → ℕ
+lineIn b i = getD (entryIn b i) 0 0
 
-unfoldable pub bodiesRight : ℕ → List ℕ → Bool
-bodiesRight zero d = true
-bodiesRight (suc count) d = if bodyRight d then bodiesRight count (drop 5 d) else false
+abbrev pub nodeIn : List ℕ → ℕ → ℕ
+nodeIn b i = addressOf (getD (entryIn b i) 1 0) (getD (entryIn b i) 2 0) (getD (entryIn b i) 3 0) .0
 
-abbrev pub motorOf : List ℕ → List ℕ → Motor
-motorOf c d =
-    if eqb (getD d 0 0) 1 then withReading (entryOf c .line) (entryOf c .node) (wordAt d 1) (getD d 3 0) (getD d 4 0) else
-    entryOf c
+abbrev pub pointerIn : List ℕ → ℕ → ℕ
+pointerIn b i = wordAt (entryIn b i) 4
 
-unfoldable pub motorsOf : ℕ → List ℕ → List ℕ → List Motor
-motorsOf zero c d = []
-motorsOf (suc count) c d = motorOf c d ∷ motorsOf count (drop 6 c) (drop 5 d)
+-- The body of a place in a form of so many motors, and the motor.
+abbrev pub bodyIn : Shape → ℕ → List ℕ → ℕ → List ℕ
+bodyIn s count b i = part (s .bodySize) (bodyPlace s count i) b
 
--- Every pulse is a number of two bytes, as a `u16` is.
-abbrev pub TwoBytePulses : List Motor → Type 0
-TwoBytePulses [] = Unit {0}
-TwoBytePulses (m ∷ l) = (m .pulse < 65536) × TwoBytePulses l
+abbrev pub motorIn : Shape → ℕ → List ℕ → ℕ → Motor
+motorIn s count b i = s .motorOf (lineIn b i) (nodeIn b i) (bodyIn s count b i)
+
+-- The motor before it; the first stands behind zeros.
+abbrev pub previousIn : Shape → ℕ → List ℕ → ℕ → Motor
+previousIn s count b zero = zeros
+previousIn s count b (suc i) = motorIn s count b i
+
+-- Line and sender as in rows 20 and 21, strictly ascending, its body at the next place.
+unfoldable pub entryBehind : Shape → Motor → ℕ → List ℕ → ℕ → Bool
+entryBehind s previous count b i =
+    if isLine (lineIn b i) then
+    if isNode (nodeIn b i) then
+    if earlierOf previous (motorIn s count b i) then eqb (pointerIn b i) (bodyPlace s count i)
+    else false else false else false
+
+abbrev pub entryRight : Shape → ℕ → List ℕ → ℕ → Bool
+entryRight s count b i = entryBehind s (previousIn s count b i) count b i
+
+abbrev pub bodyRight : Shape → ℕ → List ℕ → ℕ → Bool
+bodyRight s count b i = s .isBody (lineIn b i) (nodeIn b i) (bodyIn s count b i)
+
+-- A check at each of the first places.
+unfoldable pub everywhere : (ℕ → Bool) → ℕ → Bool
+everywhere right zero = true
+everywhere right (suc n) = if everywhere right n then right n else false
+
+abbrev pub contentsRight : Shape → ℕ → List ℕ → Bool
+contentsRight s count b = everywhere (entryRight s count b) count
+
+abbrev pub bodiesRight : Shape → ℕ → List ℕ → Bool
+bodiesRight s count b = everywhere (bodyRight s count b) count
+
+-- So many motors, from that of a place on.
+unfoldable pub listed : (ℕ → Motor) → (at n : ℕ) → List Motor
+listed motorAt at zero = []
+listed motorAt at (suc n) = motorAt at ∷ listed motorAt (suc at) n
+
+abbrev pub motorsIn : Shape → List ℕ → List Motor
+motorsIn s b = listed (motorIn s (countIn b) b) 0 (countIn b)

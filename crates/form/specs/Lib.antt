@@ -1,4 +1,6 @@
+pub mod Shape
 pub mod Layout
+pub mod FormOne
 pub mod Reading
 pub mod Writing
 pub mod Figures

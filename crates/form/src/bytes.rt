@@ -1,10 +1,10 @@
 // Numbers of two bytes, and bytes put into a lent buffer.
 use frame::word;
 ghost use mathlib.Core.Path.{_≡_};
-ghost use Prim.Native.Nat.{_+_, _*_, _/_, _%_, _<_, _≤_};
+ghost use Prim.Native.Nat.{_+_, _/_, _%_, _<_, _≤_};
 ghost use lib.ListN.{length};
 ghost use Rattle.frame.specs.Words.{wordOf};
-ghost use Rattle.frame.specs.Writing.{over};
+ghost use Rattle.form.specs.Writing.{overFrom};
 
 pub(crate) fn pair(low: u8, high: u8) -> usize
     ensures { λ r. ⌜ r ≡ wordOf low high ⌝ }
@@ -25,14 +25,14 @@ pub(crate) fn high(number: usize) -> u8
     (number / 256) as u8
 }
 
-// Bytes over the first of a part that has room for them.
-pub(crate) fn put(part: &mut [u8], bytes: &[u8])
-    requires { ⌜ length (now bytes) ≤ length (now part) ⌝ }
-    ensures { λ _. ⌜ now (part .exit) ≡ over (now (bytes .entry)) (now (part .entry)) ⌝ }
+// Bytes over those from a place on, in a buffer that has room for them.
+pub(crate) fn put(buffer: &mut [u8], at: usize, bytes: &[u8])
+    requires { ⌜ at + length (now bytes) ≤ length (now buffer) ⌝ }
+    ensures { λ _. ⌜ now (buffer .exit) ≡ overFrom at (now (bytes .entry)) (now (buffer .entry)) ⌝ }
 {
     let mut i = 0;
     while i < bytes.len() {
-        part[i] = bytes[i];
+        buffer[at + i] = bytes[i];
         i += 1;
     }
 }

@@ -1,50 +1,78 @@
-// Reading stored form 1.
+// Reading stored form 1: whether it is one, and the motor of each place.
 use crate::bodies::bodies_right;
-use crate::bodies::stored;
+use crate::bodies::motor;
 use crate::bytes::pair;
 use crate::contents::contents_right;
+use crate::places::FIRST;
+use crate::places::HEAD;
+use crate::places::form_length;
 use motors::Answer;
 use motors::Motor;
-use motors::Next;
+use motors::PLACES;
 use refusal::Refusal;
 ghost use mathlib.Core.Path.{_≡_};
-ghost use Rattle.motors.specs.Filing.{refusing};
-ghost use Rattle.form.specs.Reading.{readOf};
+ghost use Rattle.form.specs.Reading.{checkOf, placeIn, isRefusal, countedIn};
 
-// Rows 40 to 44, in their order. A form that is refused leaves the places as they were.
-pub fn read(all: [Motor; 256], bytes: &[u8]) -> Next
-    ensures { λ r. ⌜ r ≡ readOf all (now (bytes .entry)) ⌝ }
+// Rows 19 and 40 to 44, in their order, or the number of motors.
+pub fn check(places: usize, bytes: &[u8]) -> Answer
+    ensures { λ r. ⌜ r ≡ checkOf places (now (bytes .entry)) ⌝ }
 {
-    if bytes.len() < 3 {
-        return refused(all, Refusal::NotFormOne);
+    if places != PLACES {
+        return Answer::Refused(Refusal::BrokenRegister);
     }
-    if bytes[0] != 1 {
-        return refused(all, Refusal::NotFormOne);
+    if bytes.len() < HEAD {
+        return Answer::Refused(Refusal::NotFormOne);
+    }
+    if bytes[0] != FIRST {
+        return Answer::Refused(Refusal::NotFormOne);
     }
     let count = pair(bytes[1], bytes[2]);
-    if count > 256 {
-        return refused(all, Refusal::TooManyMotors);
+    if count > PLACES {
+        return Answer::Refused(Refusal::TooManyMotors);
     }
-    if bytes.len() != 3 + 11 * count {
-        return refused(all, Refusal::WrongFormLength);
+    if bytes.len() != form_length(count) {
+        return Answer::Refused(Refusal::WrongFormLength);
     }
     if !contents_right(bytes, count) {
-        return refused(all, Refusal::BadContents);
+        return Answer::Refused(Refusal::BadContents);
     }
     if !bodies_right(bytes, count) {
-        return refused(all, Refusal::BadBody);
+        return Answer::Refused(Refusal::BadBody);
     }
-    Next {
-        motors: stored(bytes, count),
-        answer: Answer::Count(count),
+    Answer::Count(count)
+}
+
+// What stands at a place when a form of so many motors is read. Bytes of another length hold no motor.
+pub fn place(bytes: &[u8], count: usize, at: usize) -> Motor
+    ensures { λ r. ⌜ r ≡ placeIn count (now (bytes .entry)) at ⌝ }
+{
+    if count > PLACES {
+        return motors::unread(0, 0);
+    }
+    if bytes.len() != form_length(count) {
+        return motors::unread(0, 0);
+    }
+    if at >= count {
+        return motors::unread(0, 0);
+    }
+    motor(bytes, count, at)
+}
+
+pub fn refuses(answer: Answer) -> bool
+    ensures { λ r. ⌜ r ≡ isRefusal answer ⌝ }
+{
+    match answer {
+        Answer::Count(_) => false,
+        Answer::Refused(_) => true,
     }
 }
 
-fn refused(all: [Motor; 256], refusal: Refusal) -> Next
-    ensures { λ r. ⌜ r ≡ refusing all refusal ⌝ }
+// The motors in a form that is read; in one that is refused, none.
+pub fn counted(answer: Answer) -> usize
+    ensures { λ r. ⌜ r ≡ countedIn answer ⌝ }
 {
-    Next {
-        motors: all,
-        answer: Answer::Refused(refusal),
+    match answer {
+        Answer::Count(count) => count,
+        Answer::Refused(_) => 0,
     }
 }

@@ -1,17 +1,20 @@
 // Writing stored form 1 from the start of a lent buffer.
-use crate::bodies::lay_bodies;
+use crate::bodies::body_bytes;
 use crate::bytes::high;
 use crate::bytes::low;
 use crate::bytes::put;
-use crate::contents::lay_contents;
+use crate::contents::entry_bytes;
+use crate::places::FIRST;
+use crate::places::body_place;
+use crate::places::entry_place;
+use crate::places::form_length;
+use motors::Found;
 use motors::Motor;
+use motors::PLACES;
 use refusal::Refusal;
 ghost use mathlib.Core.Path.{_≡_};
-ghost use Prim.Native.Nat.{_+_, _*_, _≤_};
-ghost use lib.ListN.{length, take};
-ghost use Rattle.frame.specs.Writing.{over};
-ghost use Rattle.form.specs.Layout.{formOf};
-ghost use Rattle.form.specs.Writing.{writtenOf, bufferAfter};
+ghost use Rattle.form.specs.FormOne.{formOne};
+ghost use Rattle.form.specs.Writing.{roomOf, roomFor, isRefused, fits, headLaid, motorLaid};
 
 pub enum Written {
     // The form is written; so many bytes.
@@ -19,29 +22,72 @@ pub enum Written {
     Refused(Refusal),
 }
 
-// Row 19, then 45.
-pub fn write(all: [Motor; 256], count: usize, buffer: &mut [u8]) -> Written
-    ensures { λ r. ⌜ r ≡ writtenOf all count (length (now (buffer .entry))) ⌝ }
-    ensures { λ r. ⌜ now (buffer .exit) ≡ bufferAfter all count (now (buffer .entry)) ⌝ }
+// Row 19, by what a lookup in the run found, then 45.
+pub fn room(found: Found, count: usize, room: usize) -> Written
+    ensures { λ r. ⌜ r ≡ roomOf found count room ⌝ }
 {
-    if !motors::sound(all, count) {
-        return Written::Refused(Refusal::BrokenRegister);
+    match found {
+        Found::Broken => Written::Refused(Refusal::BrokenRegister),
+        Found::Held(_) => room_for(count, room),
+        Found::New(_) => room_for(count, room),
     }
-    if buffer.len() < 3 + 11 * count {
-        return Written::Refused(Refusal::NoRoomForForm);
-    }
-    lay(buffer, all, count);
-    Written::Bytes(3 + 11 * count)
 }
 
-// The form's own bytes, over the first of a buffer that has room.
-fn lay(buffer: &mut [u8], all: [Motor; 256], count: usize)
-    requires { ⌜ (count ≤ 256) × (3 + 11 * count ≤ length (now buffer)) ⌝ }
-    ensures { λ _. ⌜ now (buffer .exit) ≡ over (formOf (take count all)) (now (buffer .entry)) ⌝ }
+fn room_for(count: usize, room: usize) -> Written
+    ensures { λ r. ⌜ r ≡ roomFor count room ⌝ }
 {
-    let head = [1, low(count), high(count)];
-    put(buffer, &head);
-    lay_contents(&mut buffer[3..], all, count);
-    let bodies = 3 + 6 * count;
-    lay_bodies(&mut buffer[bodies..], all, count);
+    if count > PLACES {
+        return Written::Refused(Refusal::BrokenRegister);
+    }
+    if room < form_length(count) {
+        return Written::Refused(Refusal::NoRoomForForm);
+    }
+    Written::Bytes(form_length(count))
+}
+
+pub fn is_refused(written: Written) -> bool
+    ensures { λ r. ⌜ r ≡ isRefused written ⌝ }
+{
+    match written {
+        Written::Bytes(_) => false,
+        Written::Refused(_) => true,
+    }
+}
+
+// A buffer without room for a form of so many motors is left as it is.
+fn fits(count: usize, room: usize) -> bool
+    ensures { λ r. ⌜ r ≡ fits formOne count room ⌝ }
+{
+    if count > PLACES {
+        return false;
+    }
+    form_length(count) <= room
+}
+
+// The first byte and the count, if the buffer has room for the form.
+pub fn lay_head(buffer: &mut [u8], count: usize)
+    ensures { λ _. ⌜ now (buffer .exit) ≡ headLaid count (now (buffer .entry)) ⌝ }
+{
+    if !fits(count, buffer.len()) {
+        return;
+    }
+    let head = [FIRST, low(count), high(count)];
+    put(buffer, 0, &head);
+}
+
+// The entry and the body of the motor at a place of a form, if the form has the place and the buffer room for it.
+pub fn lay_motor(buffer: &mut [u8], count: usize, at: usize, motor: Motor)
+    ensures { λ _. ⌜ now (buffer .exit) ≡ motorLaid count at motor (now (buffer .entry)) ⌝ }
+{
+    if at >= count {
+        return;
+    }
+    if !fits(count, buffer.len()) {
+        return;
+    }
+    let place = body_place(count, at);
+    let entry = entry_bytes(motor, place);
+    put(buffer, entry_place(at), &entry);
+    let body = body_bytes(motor);
+    put(buffer, place, &body);
 }
