@@ -26,20 +26,20 @@ contracts =
       on-frame-is = λ κs a. (tt, λ x s p. p);
       apply-is = λ κs a. (tt, λ x s p. p);
       no-groups-is = λ κs a. (tt, λ x s p. p);
-      file-is = λ κs a. (tt, λ x s p. p);
-      strike-is = λ κs a. (tt, λ x s p. p);
-      form-read-is = λ κs a. (tt, λ x s p. p);
-      form-write-is = λ κs a. (tt, λ x s p. p);
     }
 
 slice-contracts :
     {M : Type 1} (𝓤 : URA M) (H : Heap 𝓤) (A : Atoms 𝓤) (mem : Memory → SProp 𝓤) (run : Routine → Fun 𝓤) → SliceContracts 𝓤 H A mem run
 slice-contracts 𝓤 H A mem run =
     record {
-      file-is = λ κs a. (tt, λ g. (id⊢ 𝓤 (emp 𝓤), λ x s. id⊢ 𝓤 _));
+      receive-is = λ κs a. (tt, λ g. (id⊢ 𝓤 (emp 𝓤), λ x s. id⊢ 𝓤 _));
       strike-out-is = λ κs a. (tt, λ g. (id⊢ 𝓤 (emp 𝓤), λ x s. id⊢ 𝓤 _));
       read-form-is = λ κs a. (tt, λ g. (id⊢ 𝓤 (emp 𝓤), λ x s. id⊢ 𝓤 _));
       write-form-is = λ κs a. (tt, λ g. (id⊢ 𝓤 (emp 𝓤), λ x s. id⊢ 𝓤 _));
+      received-is = λ κs a. (tt, λ g. (id⊢ 𝓤 (emp 𝓤), λ x s. id⊢ 𝓤 _));
+      struck-out-is = λ κs a. (tt, λ g. (id⊢ 𝓤 (emp 𝓤), λ x s. id⊢ 𝓤 _));
+      restored-is = λ κs a. (tt, λ g. (id⊢ 𝓤 (emp 𝓤), λ x s. id⊢ 𝓤 _));
+      stored-is = λ κs a. (tt, λ g. (id⊢ 𝓤 (emp 𝓤), λ x s. id⊢ 𝓤 _));
     }
 
 pub lent-slice-contracts : LentSliceContracts

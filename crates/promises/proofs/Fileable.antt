@@ -16,13 +16,15 @@ use Rattle.frame.proofs.Frames.{frame-is-read}
 use Rattle.motors.specs.Motor.{aReading}
 use Rattle.motors.specs.Register.{held, soundOf, found, Sound}
 use Rattle.motors.specs.Report.{percentIn, ipIn, reportTable, shownBy, reported, reportBy, reportOf}
-use Rattle.motors.specs.Filing.{keeping, refusing, filedBy, filedOf, isSome, without, strikeTable, struckOf}
+use Rattle.runs.specs.Ordered.{isSome, without}
+use Rattle.motors.specs.Order.{byLineAndNode}
+use Rattle.motors.specs.Filing.{keeping, refusing, entered, reportedBy, filingOf, filedOf, strikeTable, struckOf}
 use Rattle.motors.specs.declared.motor.Motor.{Motor}
 use Rattle.motors.specs.declared.answer.Answer.the-variants.{Count}
 use Rattle.motors.specs.declared.answer.Next.{Next}
 use Rattle.motors.specs.declared.report.Report.{Report}
 use Rattle.motors.specs.declared.report.Report.the-variants.{Seen, Refused}
-use Rattle.motors.proofs.InOrder.{sound-exactly-when}
+use Rattle.motors.proofs.Sound.{sound-exactly-when}
 use Rattle.motors.proofs.Rows.{filed-by, as-reported, struck-by}
 use Rattle.motors.proofs.Shown.{seen}
 use Rattle.motors.proofs.Full.{never-both, taken-exactly-when}
@@ -44,8 +46,8 @@ module _ (run : List Motor) (count line : ℕ) (b : List ℕ) where
       let s = seen line b m e .1 in
       (s .on-its-line, s .of-the-sender)
 
-  answer-of : (x : Report) → soundOf run count ≡ true → reportOf line b ≡ x → filedOf run count line b .answer ≡ filedBy run count x .answer
-  answer-of x ok e = ap (λ (y : Next). y .answer) (as-reported run count line b x ok e)
+  answer-of : (x : Report) → soundOf run count ≡ true → reportOf line b ≡ x → filedOf run count line b .answer ≡ reportedBy entered run count x .answer
+  answer-of x ok e = ap (λ (r : Report). filingOf entered run count r .answer) e ∙ ap (λ (y : Next). y .answer) (as-reported entered run count x ok)
 
   -- What rows 22 and 23 leave of a message that they pass.
   abbrev NamesOrReports : Type 0
@@ -121,7 +123,7 @@ module _ (run : List Motor) (count line : ℕ) (b : List ℕ) where
   filed-was-fileable (n, a) =
       by-test (soundOf run count)
       (λ ok. reported-was-fileable ok (reportOf line b) refl (n, a))
-      (λ broken. absurd (never-both _ n Refusal.BrokenRegister a (ap (λ (y : Next). y .answer) (filed-by run count line b 0 broken))))
+      (λ broken. absurd (never-both _ n Refusal.BrokenRegister a (ap (λ (y : Next). y .answer) (filed-by entered run count (reportOf line b) 0 broken))))
 
   pub filed-exactly-when : Fileable run count line b ↔ IsFiled
   filed-exactly-when = (fileable-is-filed, filed-was-fileable)
@@ -134,7 +136,7 @@ module _ (run : List Motor) (count line node : ℕ) where
   strikeable-is-struck : Strikeable run count line node → IsStruck (struckOf run count line node)
   strikeable-is-struck s =
       let sound = sound-exactly-when run count .0 (s .sound-register) in (
-        length (without (held run count) line node),
+        length (without byLineAndNode (held run count) (line, node)),
         ap (λ (y : Next). y .answer)
             (struck-by run count line node 3 (sound, (s .on-line-0-to-3, (s .is-held, tt)))),
       )
@@ -148,7 +150,7 @@ module _ (run : List Motor) (count line node : ℕ) where
   struck-was-strikeable : WasStrikeable (struckOf run count line node)
   unfolding struckOf
   struck-was-strikeable =
-      of-decided WasStrikeable (strikeTable run count line node) (keeping (without (held run count) line node))
+      of-decided WasStrikeable (strikeTable run count line node) (keeping (without byLineAndNode (held run count) (line, node)))
       (refused Refusal.BrokenRegister, (refused Refusal.NoSuchLine, (refused Refusal.NotHeld, tt)))
       λ (sound, (few, (there, end))) struck.
       record { sound-register = sound-exactly-when run count .1 sound; on-line-0-to-3 = few; is-held = there }

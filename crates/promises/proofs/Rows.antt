@@ -2,7 +2,7 @@
 -- Assumes nothing.
 use Prim.Native.Nat.{ℕ, suc, _+_, _*_, _≤_, _<_}
 use native.Mathlib.Omega.{arith}
-use mathlib.Core.Path.{_≡_, refl, _∙_, sym, ap₂}
+use mathlib.Core.Path.{subst, _≡_, refl, _∙_, sym, ap₂}
 use mathlib.Core.Logic.{_≢_, _↔_, inl, inr, ⊎-elim}
 use mathlib.Core.Bool.{Bool, true, false, not, _||_, false≢true}
 use mathlib.Core.List.{List, [], _∷_, _++_}
@@ -45,15 +45,21 @@ use Rattle.node.specs.Meant.{meant}
 use Rattle.meaning.specs.Membership.{IsOneOf, as-first}
 use Rattle.motors.specs.Register.{held, soundOf, found, Sound as SoundRegister}
 use Rattle.motors.specs.Report.{reportTable, shownBy, reported, reportBy, reportOf}
-use Rattle.motors.specs.Filing.{keeping, entered, enterTable, enteredOf, filedBy, fileTable, filedOf, without, strikeTable, struckOf}
+use Rattle.runs.specs.Ordered.{without}
+use Rattle.motors.specs.Order.{byLineAndNode}
+use Rattle.motors.specs.Filing.{keeping, entered, keepTable, keptOf, reportedBy, fileTable, filingOf, filedOf, strikeTable, struckOf}
 use Rattle.motors.specs.declared.motor.Motor.{Motor}
 use Rattle.motors.specs.declared.answer.Next.{Next}
+use Rattle.motors.specs.declared.answer.Answer.{Answer}
+use Rattle.motors.specs.declared.answer.Answer.the-variants.{Count}
 use Rattle.motors.specs.declared.report.Report.{Report}
 use Rattle.motors.specs.declared.report.Report.the-variants.{Seen}
-use Rattle.motors.proofs.InOrder.{sound-exactly-when}
+use Rattle.motors.proofs.Sound.{sound-exactly-when}
 use Rattle.motors.proofs.Full.{beyond-exactly-when}
-use Rattle.form.specs.Layout.{formLength, motorsOf}
-use Rattle.form.specs.Reading.{countIn, contentsIn, bodiesIn, readFormTable, readOf}
+use Rattle.form.specs.Layout.{countIn, formLength}
+use Rattle.form.specs.FormOne.{formOne}
+use Rattle.form.specs.Reading.{checked, readFormTable, checkOf, readOf}
+use Rattle.form.proofs.InPlace.{the-check-is-the-answer}
 use Rattle.form.specs.Writing.{writeFormTable, writtenOf}
 use Rattle.form.specs.declared.writing.Written.{Written}
 use Rattle.promises.specs.Numbers.{readNumber, writeNumber, lineNumber, eventNumber, turnNumber, registerNumber, formNumber, noFrame}
@@ -254,11 +260,11 @@ strike-out : (run : List Motor) (count line node : ℕ)
 unfolding struckOf
 strike-out run count line node =
     let table = strikeTable run count line node in
-    retold (numbered left table) (unsound run count) (first left table (keeping (without (held run count) line node)) refl)
+    retold (numbered left table) (unsound run count) (first left table (keeping (without byLineAndNode (held run count) (line, node))) refl)
 
 module _ (run : List Motor) (count line : ℕ) (b : List ℕ) where
   abbrev reportNumber : Report → ℕ
-  reportNumber x = left (filedBy run count x)
+  reportNumber x = left (reportedBy entered run count x)
 
   abbrev shown : Motor
   shown = shownBy line (headerOf b) (dataOf b)
@@ -277,9 +283,9 @@ module _ (run : List Motor) (count line : ℕ) (b : List ℕ) where
       (λ h. (sym same ∙ whole .0 h .0, whole .0 h .1), λ p. whole .1 (same ∙ p .0, p .1))
 
   entering : soundOf run count ≡ true → FirstOf (24 when FullRow ∷ []) (reportNumber (Seen shown))
-  unfolding enteredOf
-  entering ok = retold (numbered left (enterTable run count shown)) (full ok)
-      (first left (enterTable run count shown) (keeping (entered (held run count) shown)) refl)
+  unfolding keptOf
+  entering ok = retold (numbered left (keepTable run (entered (held run count) shown))) (full ok)
+      (first left (keepTable run (entered (held run count) shown)) (keeping (entered (held run count) shown)) refl)
 
   -- Rows 20 to 24, of a frame.
   abbrev reportRows : List Row
@@ -298,23 +304,26 @@ module _ (run : List Motor) (count line : ℕ) (b : List ℕ) where
       (λ facts. reporting ok)
 
 file : (run : List Motor) (count line : ℕ) (b : List ℕ) → FirstOf (fileRows run count line b) (left (filedOf run count line b))
-unfolding filedOf
+unfolding filingOf
 file run count line b =
     let more = bundleRows b ++ reportRows run count line b in
     retold (numbered left (fileTable run count) ++ more) (unsound run count)
-    (first-then left (fileTable run count) (filedBy run count (reportOf line b)) more (λ facts. reading run count line b (facts .0)))
+    (first-then left (fileTable run count) (reportedBy entered run count (reportOf line b)) more (λ facts. reading run count line b (facts .0)))
 
 -- ---- stored form 1
+check-form : (run : List Motor) (b : List ℕ) → FirstOf (readFormRows run b) (registerNumber (checkOf (length run) b))
+unfolding checked
+check-form run b = first registerNumber (readFormTable (length run) b) (Count (countIn b)) refl
+
 read-form : (run : List Motor) (b : List ℕ) → FirstOf (readFormRows run b) (left (readOf run b))
-unfolding readOf
-read-form run b = first left (readFormTable run b) (keeping (motorsOf (countIn b) (contentsIn b) (bodiesIn b))) refl
+read-form run b = subst (λ (a : Answer). FirstOf (readFormRows run b) (registerNumber a)) (the-check-is-the-answer run b) (check-form run b)
 
 write-form : (run : List Motor) (count : ℕ) (buffer : List ℕ)
     → FirstOf (19 when (¬ SoundRegister run count) ∷ 45 when (length buffer < 3 + 11 * count) ∷ []) (formNumber (writtenOf run count (length buffer)))
 unfolding writtenOf
 write-form run count buffer =
     let table = writeFormTable run count (length buffer) in
-    retold (numbered formNumber table) (unsound run count) (first formNumber table (Written.Bytes (formLength count)) refl)
+    retold (numbered formNumber table) (unsound run count) (first formNumber table (Written.Bytes (formLength formOne count)) refl)
 
 pub rows : Rows
 rows =

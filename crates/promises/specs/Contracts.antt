@@ -54,20 +54,16 @@ use Rattle.board.proofs.apply.Reads as apply
 use Rattle.board.proofs.no_groups.Kinds as no-groups-kinds
 use Rattle.board.proofs.no_groups.Reads as no-groups
 use Rattle.motors.specs.Filing.{filedOf, struckOf}
-use Rattle.motors.proofs.file.Kinds as file-kinds
-use Rattle.motors.proofs.file.Reads as file
-use Rattle.motors.proofs.strike.Kinds as strike-kinds
-use Rattle.motors.proofs.strike.Reads as strike
 use Rattle.form.specs.Reading.{readOf}
 use Rattle.form.specs.Writing.{writtenOf, bufferAfter as formWritten}
-use Rattle.form.proofs.read.Kinds as form-read-kinds
-use Rattle.form.proofs.read.Reads as form-read
-use Rattle.form.proofs.write.Kinds as form-write-kinds
-use Rattle.form.proofs.write.Reads as form-write
-use Rattle.register.proofs.file as slice-file
-use Rattle.register.proofs.strike_out as slice-strike-out
-use Rattle.register.proofs.read_form as slice-read-form
-use Rattle.register.proofs.write_form as slice-write-form
+use Rattle.register.proofs.receive as receive
+use Rattle.register.proofs.strike_out as strike-out
+use Rattle.register.proofs.read_form as read-form
+use Rattle.register.proofs.write_form as write-form
+use Rattle.register.proofs.received as received
+use Rattle.register.proofs.struck_out as struck-out
+use Rattle.register.proofs.restored as restored
+use Rattle.register.proofs.stored as stored
 
 -- Of any arguments, with nothing required of them, each result that the contract allows is the meaning.
 abbrev pub Says : {n : ℕ} (ps : List (PK n)) (r : RK n) → In n ps → Out n ps r
@@ -109,16 +105,6 @@ pub record Contracts : Type 0 where
   pub on-frame-is : Says on-frame-kinds.ps on-frame-kinds.r on-frame.Pre on-frame.Post (λ κs a. turnOf (a .0) (a .1 .0) (now (a .1 .1 .0)))
   pub apply-is : Says apply-kinds.ps apply-kinds.r apply.Pre apply.Post (λ κs a. applied (a .0) (a .1 .0))
   pub no-groups-is : Says no-groups-kinds.ps no-groups-kinds.r no-groups.Pre no-groups.Post (λ κs a. noGroups)
-  -- The register by value: a frame filed, a motor struck out.
-  pub file-is : Says file-kinds.ps file-kinds.r file.Pre file.Post (λ κs a. filedOf (a .0) (a .1 .0) (a .1 .1 .0) (now (a .1 .1 .1 .0)))
-  pub strike-is : Says strike-kinds.ps strike-kinds.r strike.Pre strike.Post (λ κs a. struckOf (a .0) (a .1 .0) (a .1 .1 .0) (a .1 .1 .1 .0))
-  -- The stored form: read, and written into a lent buffer.
-  pub form-read-is : Says form-read-kinds.ps form-read-kinds.r form-read.Pre form-read.Post (λ κs a. readOf (a .0) (now (a .1 .0)))
-  pub form-write-is :
-      SaysLent form-write-kinds.ps form-write-kinds.r form-write.Pre form-write.Post
-      (λ κs a. writtenOf (a .0) (a .1 .0) (length (now (a .1 .1 .0))))
-      (λ κs s. now (s .1 .1 .0))
-      (λ κs a. formWritten (a .0) (a .1 .0) (now (a .1 .1 .0)))
 
 -- The same for the lent slice of motors, whose functions are proved by hand: of their contracts, in the program logic
 -- that they are proved in.
@@ -134,30 +120,55 @@ SaysHeld 𝓤 {E} T c meaning left after =
     → ent 𝓤 (emp 𝓤) (c κs a .requires g)
     × ((x : Res (T .signature) κs) (s : AtExit T κs) → ent 𝓤 (c κs a .ensures g x s) (fact 𝓤 ((x ≡ meaning κs a) × (left κs s ≡ after κs a)))))
 
+-- The same where no memory is lent to be changed.
+abbrev pub SaysByHand :
+    {M : Type 1} (𝓤 : URA M) (T : Ended) (c : Clauses 𝓤 T)
+    → ((κs : Lfts (T .signature .lifetimes)) → Args (T .signature) κs → Res (T .signature) κs) → Type 1
+SaysByHand 𝓤 T c meaning =
+    (κs : Lfts (T .signature .lifetimes)) (a : Args (T .signature) κs)
+    → c κs a .ghost
+    × ((g : c κs a .ghost)
+    → ent 𝓤 (emp 𝓤) (c κs a .requires g)
+    × ((x : Res (T .signature) κs) (s : AtExit T κs) → ent 𝓤 (c κs a .ensures g x s) (fact 𝓤 (x ≡ meaning κs a))))
+
 pub record SliceContracts {M : Type 1} (𝓤 : URA M) (H : Heap 𝓤) (A : Atoms 𝓤) (mem : Memory → SProp 𝓤) (run : Routine → Fun 𝓤) : Type 1 where
-  pub file-is :
-      SaysHeld 𝓤 slice-file.ended (slice-file.clauses 𝓤 H A mem run)
+  -- A frame received, a motor struck out, the stored form read and written, where the records stand.
+  pub receive-is :
+      SaysHeld 𝓤 receive.ended (receive.clauses 𝓤 H A mem run)
       (λ κs a. filedOf (now (a .0)) (a .1 .0) (a .1 .1 .0) (now (a .1 .1 .1 .0)) .answer)
       (λ κs s. now (s .0))
       (λ κs a. filedOf (now (a .0)) (a .1 .0) (a .1 .1 .0) (now (a .1 .1 .1 .0)) .motors)
   pub strike-out-is :
-      SaysHeld 𝓤 slice-strike-out.ended (slice-strike-out.clauses 𝓤 H A mem run)
+      SaysHeld 𝓤 strike-out.ended (strike-out.clauses 𝓤 H A mem run)
       (λ κs a. struckOf (now (a .0)) (a .1 .0) (a .1 .1 .0) (a .1 .1 .1 .0) .answer)
       (λ κs s. now (s .0))
       (λ κs a. struckOf (now (a .0)) (a .1 .0) (a .1 .1 .0) (a .1 .1 .1 .0) .motors)
   pub read-form-is :
-      SaysHeld 𝓤 slice-read-form.ended (slice-read-form.clauses 𝓤 H A mem run)
+      SaysHeld 𝓤 read-form.ended (read-form.clauses 𝓤 H A mem run)
       (λ κs a. readOf (now (a .0)) (now (a .1 .0)) .answer)
       (λ κs s. now (s .0))
       (λ κs a. readOf (now (a .0)) (now (a .1 .0)) .motors)
   pub write-form-is :
-      SaysHeld 𝓤 slice-write-form.ended (slice-write-form.clauses 𝓤 H A mem run)
+      SaysHeld 𝓤 write-form.ended (write-form.clauses 𝓤 H A mem run)
       (λ κs a. writtenOf (now (a .0)) (a .1 .0) (length (now (a .1 .1 .0))))
       (λ κs s. now (s .1 .1 .0))
       (λ κs a. formWritten (now (a .0)) (a .1 .0) (now (a .1 .1 .0)))
+  -- The same by value.
+  pub received-is :
+      SaysByHand 𝓤 received.ended (received.clauses 𝓤 H A mem run)
+      (λ κs a. filedOf (a .0) (a .1 .0) (a .1 .1 .0) (now (a .1 .1 .1 .0)))
+  pub struck-out-is :
+      SaysByHand 𝓤 struck-out.ended (struck-out.clauses 𝓤 H A mem run)
+      (λ κs a. struckOf (a .0) (a .1 .0) (a .1 .1 .0) (a .1 .1 .1 .0))
+  pub restored-is :
+      SaysByHand 𝓤 restored.ended (restored.clauses 𝓤 H A mem run) (λ κs a. readOf (a .0) (now (a .1 .0)))
+  pub stored-is :
+      SaysHeld 𝓤 stored.ended (stored.clauses 𝓤 H A mem run)
+      (λ κs a. writtenOf (a .0) (a .1 .0) (length (now (a .1 .1 .0))))
+      (λ κs s. now (s .1 .1 .0))
+      (λ κs a. formWritten (a .0) (a .1 .0) (now (a .1 .1 .0)))
 
--- The four calls over the lent slice, whatever the logic is built on: a frame filed, a motor struck out, the stored
--- form read and written.
+-- The calls on the register, whatever the logic is built on.
 pub record LentSliceContracts : Type 2 where
   pub register :
       {M : Type 1} (𝓤 : URA M) (H : Heap 𝓤) (A : Atoms 𝓤) (mem : Memory → SProp 𝓤) (run : Routine → Fun 𝓤)

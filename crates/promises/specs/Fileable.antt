@@ -10,7 +10,7 @@ use Rattle.frame.specs.Layout.{message, source, destination, dataOf, dataCount}
 use Rattle.frame.specs.Reading.{IsFrame}
 use Rattle.motors.specs.Register.{found, Sound}
 use Rattle.motors.specs.Report.{percentIn, ipIn}
-use Rattle.motors.specs.Filing.{isSome}
+use Rattle.runs.specs.Ordered.{isSome}
 use Rattle.motors.specs.declared.motor.Motor.{Motor}
 
 -- A 0Dh with a reading in it (row 23).

@@ -21,13 +21,13 @@ use Rattle.board.specs.Ranges.{SettingsInRange, BoardInRange}
 use Rattle.board.specs.Groups.{Groups}
 use Rattle.node.specs.Frames.{turnOf}
 use Rattle.meaning.specs.Membership.{IsOneOf}
-use Rattle.motors.specs.Motor.{zeros}
 use Rattle.motors.specs.Register.{found, Sound}
 use Rattle.motors.specs.Report.{percentIn, ipIn}
 use Rattle.motors.specs.Filing.{filedOf, struckOf}
 use Rattle.motors.specs.declared.motor.Motor.{Motor}
-use Rattle.form.specs.Layout.{firstBody, contentsRight, bodiesRight}
-use Rattle.form.specs.Reading.{countIn, contentsIn, bodiesIn, readOf}
+use Rattle.form.specs.Layout.{countIn, contentsRight, bodiesRight}
+use Rattle.form.specs.FormOne.{formOne}
+use Rattle.form.specs.Reading.{readOf}
 use Rattle.form.specs.Writing.{writtenOf}
 use Rattle.promises.specs.Numbers.{
   readNumber,
@@ -108,8 +108,8 @@ readFormRows run b =
     ∷ 40 when ((length b < 3) ⊎ (getD b 0 0 ≢ 1))
     ∷ 41 when (256 < countIn b)
     ∷ 42 when (length b ≢ 3 + 11 * countIn b)
-    ∷ 43 when (contentsRight zeros (firstBody (countIn b)) (countIn b) (contentsIn b) ≡ false)
-    ∷ 44 when (bodiesRight (countIn b) (bodiesIn b) ≡ false)
+    ∷ 43 when (contentsRight formOne (countIn b) b ≡ false)
+    ∷ 44 when (bodiesRight formOne (countIn b) b ≡ false)
     ∷ []
 
 pub record Rows : Type 1 where

@@ -12,9 +12,10 @@ use Rattle.motors.specs.{
   Motor.{unread, withReading, zeros},
   Register.{held, soundOf, found},
   Report.{pulseIn, percentIn, ipIn},
-  Filing.{filedOf, struckOf, isSome},
+  Filing.{filedOf, struckOf},
   declared.{motor.Motor.{Motor}, answer.Answer.the-variants.{Count}},
 }
+use Rattle.runs.specs.Ordered.{isSome}
 use Rattle.motors.specs.Register.{occupied}
 use Rattle.motors.specs.Filing.{countAfter}
 use Rattle.promises.specs.Fileable.{Fileable, Strikeable}
@@ -55,8 +56,9 @@ pub record InRange (m : Motor) : Type 0 where
   pub line-0-to-3 : m .line ≤ 3
   pub NodeID-from-000001h : 0x000001 ≤ m .node
   pub NodeID-to-FFFEFFh : m .node ≤ 0xFFFEFF
-  pub with-a-reading : m .reading ≡ true → (m .percent ≤ 100) × (((1 ≤ m .ip) × (m .ip ≤ 16)) ⊎ (m .ip ≡ 0xFF))
-  pub without-one-zeros : m .reading ≡ false → (m .pulse ≡ 0) × ((m .percent ≡ 0) × (m .ip ≡ 0))
+  pub mark-0-or-1 : (m .mark ≡ 0) ⊎ (m .mark ≡ 1)
+  pub with-a-reading : m .mark ≡ 1 → (m .percent ≤ 100) × (((1 ≤ m .ip) × (m .ip ≤ 16)) ⊎ (m .ip ≡ 0xFF))
+  pub without-one-zeros : m .mark ≡ 0 → (m .pulse ≡ 0) × ((m .percent ≡ 0) × (m .ip ≡ 0))
 
 pub record Register : Type 0 where
   pub records-ascend-by-line-then-NodeID :

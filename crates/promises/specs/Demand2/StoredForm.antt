@@ -13,18 +13,18 @@ use Rattle.motors.specs.{
 }
 use Rattle.form.specs.{
   Layout.{formLength},
+  FormOne.{formOne, TwoBytePulses},
   Reading.{readOf},
   Writing.{writtenOf, bufferAfter as formWritten},
   declared.writing.Written.the-variants.{Bytes as Written},
 }
-use Rattle.form.specs.Layout.{TwoBytePulses}
 
 -- Of bytes below 256 and pulses of two bytes, as all of the code are.
 pub record StoredForm : Type 0 where
   pub form-written-is-read :
       (run : List Motor) (count : ℕ) → soundOf run count ≡ true → TwoBytePulses (held run count)
-      → (buffer : List ℕ) → formLength count ≤ length buffer → (other : List Motor) → length other ≡ 256
-      → readOf other (take (formLength count) (formWritten run count buffer))
+      → (buffer : List ℕ) → formLength formOne count ≤ length buffer → (other : List Motor) → length other ≡ 256
+      → readOf other (take (formLength formOne count) (formWritten run count buffer))
       ≡ record { motors = run; answer = Count count }
   pub what-is-read-is-written :
       (run : List Motor) (b : List ℕ) (n : ℕ) → readOf run b .answer ≡ Count n → Bytes b → (buffer : List ℕ)
