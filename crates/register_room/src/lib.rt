@@ -13,16 +13,22 @@ use form::Written;
 use motors::Answer;
 use motors::Motor;
 use motors::Next;
+use motors::PLACES;
 ghost use Prim.Native.Nat.{_≤_};
 
 // The register after a command, and the answer.
 pub struct Kept {
-    pub motors: [Motor; 256],
+    pub motors: [Motor; PLACES],
     pub count: usize,
     pub said: Said,
 }
 
-pub fn at_register(motors: [Motor; 256], count: usize, order: Order, bytes: &[u8; 4096]) -> Kept {
+pub fn at_register(
+    motors: [Motor; PLACES],
+    count: usize,
+    order: Order,
+    bytes: &[u8; 4096],
+) -> Kept {
     let command = order.command;
     let values = order.values;
     match command {
@@ -57,28 +63,28 @@ fn after_call(held: usize, next: Next) -> Kept {
 }
 
 // A fresh start has an empty register.
-pub fn no_motors() -> [Motor; 256] {
+pub fn no_motors() -> [Motor; PLACES] {
     let none = motors::unread(0, 0);
-    [none; 256]
+    [none; PLACES]
 }
 
 // `line DEC HEX`, `strike DEC ID`, `load HEX`
 fn next(
-    motors: [Motor; 256],
+    motors: [Motor; PLACES],
     count: usize,
     command: Command,
     values: Values,
     bytes: &[u8],
 ) -> Next {
     match command {
-        Command::Line => motors::file(
+        Command::Line => register::received(
             motors,
             count,
             values.small(0),
             first(bytes, values.count(1)),
         ),
-        Command::Strike => motors::strike(motors, count, values.small(0), values.large(1)),
-        _ => form::read(motors, first(bytes, values.count(0))),
+        Command::Strike => register::struck_out(motors, count, values.small(0), values.large(1)),
+        _ => register::restored(motors, first(bytes, values.count(0))),
     }
 }
 
@@ -95,7 +101,7 @@ pub fn put_register(kept: Kept, order: Order, out: &mut [u8; 65536], at: usize) 
 }
 
 // One row, and then one for each motor.
-fn put_motors(motors: [Motor; 256], count: usize, out: &mut [u8], at: usize) -> usize {
+fn put_motors(motors: [Motor; PLACES], count: usize, out: &mut [u8], at: usize) -> usize {
     let held = places(count);
     let numbers = [held as u32];
     let mut behind = put_row(out, at, b"motors #", &numbers, b"");
@@ -110,29 +116,29 @@ fn put_motors(motors: [Motor; 256], count: usize, out: &mut [u8], at: usize) -> 
 fn places(count: usize) -> usize
     ensures { λ r. ⌜ r ≤ 256 ⌝ }
 {
-    if count > 256 {
-        return 256;
+    if count > PLACES {
+        return PLACES;
     }
     count
 }
 
 fn put_motor(motor: Motor, out: &mut [u8], at: usize) -> usize {
     let numbers = [
-        motor.line as u32,
+        motor.line,
         motor.node,
         motor.pulse as u32,
         motor.percent as u32,
         motor.ip as u32,
     ];
-    if !motor.reading {
+    if motor.mark == 0 {
         return put_row(out, at, b"# @ -", &numbers, b"");
     }
     put_row(out, at, b"# @ # # $", &numbers, b"")
 }
 
-fn put_form(motors: [Motor; 256], count: usize, out: &mut [u8], at: usize) -> usize {
+fn put_form(motors: [Motor; PLACES], count: usize, out: &mut [u8], at: usize) -> usize {
     let mut bytes = [0u8; 4096];
-    let written = form::write(motors, count, &mut bytes);
+    let written = register::stored(motors, count, &mut bytes);
     match written {
         Written::Bytes(length) => put_row(out, at, b"form *", &[0u32; 1], first(&bytes, length)),
         Written::Refused(refusal) => put_said(out, at, refused(refusal)),

@@ -2,7 +2,6 @@
 -- Assumes nothing.
 use borrow.Author.Needs.{needs}
 use Prim.Native.Nat.{_≤_, _-_}
-use native.Mathlib.Omega.{arith}
 use lib.ListN.{length}
 use Rattle.speed.proofs.turns.speed_board.Statement.{statement}
 use Rattle.speed.proofs.turns.speed_board.Tie as tie
