@@ -1,13 +1,16 @@
 /*
- * The proved code beside the second program's: both go through the same
- * workloads in one process, round by round, and have to give the same numbers.
- * Of the board there are two in C: the second program's, and the same with the
- * check of its state, row 33, that document 01 asks for at every call.
+ * The proved code beside C: both go through the same workloads in one process,
+ * round by round, and have to give the same numbers, and the same records of a
+ * register.  Where document 01 asks for a check of the whole state at every
+ * call, rows 19 and 33, there is C that checks it and C that does not, which is
+ * the second program's own.
  *
- *   beside                      for each row its title and the ratio of the two
- *                               medians: over 1, the proved code is the slower
- *   beside answers              the same numbers, once through each row, untimed,
- *                               and of boards that row 33 refuses
+ *   beside                      for each row its title, what one pass goes
+ *                               through, and the ratios of the medians to C that
+ *                               checks, if any, and to C that does not: over 1,
+ *                               the proved code is the slower
+ *   beside answers              the same numbers and records, once through each
+ *                               row, untimed, and of boards that row 33 refuses
  *   beside ROW SIDE TIMES       one side of one row alone, so many times, for
  *                               whoever counts its instructions
  *
@@ -20,6 +23,8 @@
 #include <string.h>
 #include <time.h>
 
+#include "proved.h"
+
 /* The second program's files, in one unit, so that calls from one to another can be inlined. */
 #include "second/frame.c"
 #include "second/reader.c"
@@ -27,292 +32,112 @@
 #include "second/board.c"
 #include "second/messages.c"
 #include "second/register.c"
+#include "second/form.c"
 #include "second/words.c"
 #include "second/script_line.c"
 #include "second/script_frame.c"
 #include "second/script_board.c"
 #include "second/script_register.c"
 
-/* The proved code, of the crate `speed`: a lent slice is its start and its length. */
-uint64_t speed_reader(const uint8_t *bytes, size_t count, const uint16_t *silences, size_t silence_count);
-uint64_t speed_bundles(const uint8_t *slots, size_t size, uint8_t *buffer, size_t room);
-uint64_t speed_board(const uint8_t *slots, size_t size, uint32_t node_id, uint8_t type, uint16_t travel);
-uint64_t speed_file(void *run, size_t places, size_t held, uint8_t line, const uint8_t *bundle, size_t count);
+#include "checked_register.c"
 
-enum {
-    ROUNDS = 31,
-    SLOT = 32,
-    SLOTS = 4096,
-    FRAME_WORTH = 256,
-    OWN_ID = 0x050403,
-    OWN_TYPE = 2,
-    OWN_TRAVEL = 1000,
-    OWN_LINE = 1,
-    MOTOR_SIZE = 16,
-    BROKEN_BOARD = 33, /* a row that the second program does not have, since its state is its own */
-    REFUSED = 1000 /* speed_file answers the count held, or this and the refusal's number */
-};
+enum side { PROVED, UNCHECKED, CHECKED, SIDES };
 
-/* What a board is set up with. */
-struct settings {
-    uint32_t node_id;
-    uint8_t type;
-    uint16_t travel;
-};
-
-static const struct settings own = {OWN_ID, OWN_TYPE, OWN_TRAVEL};
-
-struct workload {
-    uint8_t slots[SLOT * SLOTS]; /* a bundle each: its length, then its bytes */
-    uint8_t bytes[SLOT * SLOTS]; /* the same bundles on a line */
-    uint16_t silences[SLOT * SLOTS];
-    size_t count;
-};
-
-/* ------------------------------------------------------------------------
- * The second program's code over a workload
- * ------------------------------------------------------------------------ */
-
-static uint64_t answer_worth(const struct bundle_answer *answer)
-{
-    if (!answer->ended)
-        return 0;
-    if (answer->refusal != ACCEPTED)
-        return (uint64_t)answer->refusal;
-    return FRAME_WORTH + (uint64_t)inverted(answer->bundle.bytes[0]) + answer->bundle.bytes[10];
-}
-
-static uint64_t second_reader(const struct workload *work)
-{
-    struct line_reader reader = {0};
-    uint64_t total = 0;
-    for (size_t at = 0; at < work->count; at++) {
-        struct bundle_answer answer = step(&reader, work->bytes[at], work->silences[at]);
-        total += answer_worth(&answer);
-    }
-    struct bundle_answer answer = end_bundle(&reader);
-    return total + answer_worth(&answer);
-}
-
-static uint64_t second_bundles(const struct workload *work)
-{
-    uint64_t total = 0;
-    struct wire wire;
-    for (const uint8_t *slot = work->slots; slot < work->slots + sizeof work->slots; slot += SLOT) {
-        struct frame frame;
-        enum refusal refusal = read_frame(slot + 1, slot[0], &frame);
-        if (refusal == ACCEPTED)
-            refusal = write_frame(&frame.header, frame.data, frame.data_count, &wire);
-        total += refusal == ACCEPTED ? wire.count : (uint64_t)refusal;
-    }
-    return total;
-}
-
-/*
- * Row 33, which document 01 asks for at every call: the settings' ranges;
- * within the travel the position, the target while running, and every favourite
- * that is set; the lock's holder an address.  All favourites are looked at, so
- * that the compiler takes several at once: quicker than to stop at the first.
- */
-static bool is_sound(const struct board *board)
-{
-    if (!is_node_id(board->node_id) || board->type < 1 || board->type > NODE_TYPE_LAST || board->travel < TRAVEL_LEAST)
-        return false;
-    if (board->position > board->travel || (board->running && board->target > board->travel))
-        return false;
-    bool beyond = false;
-    for (size_t at = 0; at < FAVOURITES; at++)
-        beyond |= board->favourites[at].set & (board->favourites[at].pulse > board->travel);
-    return !beyond && board->holder <= ADDRESS_LAST;
-}
-
-/* Here, as in the proved code, a reply is its bytes and then zeros. */
-static enum refusal plain_turn(struct board *board, const uint8_t *bundle, size_t count, struct wire *sent)
-{
-    *sent = (struct wire){0};
-    return bundle_to_board(board, bundle, count, sent);
-}
-
-static enum refusal checked_turn(struct board *board, const uint8_t *bundle, size_t count, struct wire *sent)
-{
-    *sent = (struct wire){0};
-    if (!is_sound(board))
-        return (enum refusal)BROKEN_BOARD;
-    return bundle_to_board(board, bundle, count, sent);
-}
-
-/* As in the proved code, also of settings that row 32 refuses. */
-static struct board fresh_board(const struct settings *settings)
-{
-    struct board board = {.node_id = settings->node_id, .type = settings->type, .travel = settings->travel};
-    power_up(&board);
-    return board;
-}
-
-typedef enum refusal board_turn(struct board *board, const uint8_t *bundle, size_t count, struct wire *sent);
-
-static inline uint64_t turns_of(const struct workload *work, const struct settings *settings, board_turn *turn)
-{
-    uint64_t total = 0;
-    struct board board = fresh_board(settings);
-    for (const uint8_t *slot = work->slots; slot < work->slots + sizeof work->slots; slot += SLOT) {
-        struct wire sent;
-        enum refusal refusal = turn(&board, slot + 1, slot[0], &sent);
-        total += refusal == ACCEPTED ? sent.count + sent.bytes[10] : (uint64_t)refusal;
-    }
-    return total;
-}
-
-static uint64_t second_board(const struct workload *work)
-{
-    return turns_of(work, &own, plain_turn);
-}
-
-static uint64_t checked_board(const struct workload *work)
-{
-    return turns_of(work, &own, checked_turn);
-}
-
-static uint64_t second_register(const struct workload *work)
-{
-    static const struct motor_register empty;
-    struct motor_register held = empty;
-    uint64_t total = 0;
-    for (const uint8_t *slot = work->slots; slot < work->slots + sizeof work->slots; slot += SLOT) {
-        enum refusal refusal = bundle_to_register(&held, OWN_LINE, slot + 1, slot[0]);
-        total += refusal == ACCEPTED ? held.count : (uint64_t)refusal;
-    }
-    return total;
-}
-
-/* ------------------------------------------------------------------------
- * The proved code over a workload
- * ------------------------------------------------------------------------ */
-
-static uint64_t proved_reader(const struct workload *work)
-{
-    return speed_reader(work->bytes, work->count, work->silences, work->count);
-}
-
-static uint64_t proved_bundles(const struct workload *work)
-{
-    uint8_t buffer[BUNDLE_LONGEST];
-    return speed_bundles(work->slots, sizeof work->slots, buffer, sizeof buffer);
-}
-
-static uint64_t proved_turns(const struct workload *work, const struct settings *settings)
-{
-    return speed_board(work->slots, sizeof work->slots, settings->node_id, settings->type, settings->travel);
-}
-
-static uint64_t proved_board(const struct workload *work)
-{
-    return proved_turns(work, &own);
-}
-
-/* The lent run: 256 records, each of which takes MOTOR_SIZE bytes; zeros are an empty register. */
-static uint64_t proved_register(const struct workload *work)
-{
-    _Alignas(8) uint8_t run[MOTOR_SIZE * MOTORS_MOST] = {0};
-    size_t held = 0;
-    uint64_t total = 0;
-    for (const uint8_t *slot = work->slots; slot < work->slots + sizeof work->slots; slot += SLOT) {
-        uint64_t answer = speed_file(run, MOTORS_MOST, held, OWN_LINE, slot + 1, slot[0]);
-        if (answer < REFUSED)
-            held = answer;
-        total += answer < REFUSED ? answer : answer - REFUSED;
-    }
-    return total;
-}
-
-/* ------------------------------------------------------------------------
- * Workloads
- * ------------------------------------------------------------------------ */
+static const char *const side_names[SIDES] = {"proved", "unchecked", "checked"};
 
 static struct script script;
-static struct workload work;
 
-/* One bundle in a hundred has its last byte changed. */
-static void put_slot(size_t number, const struct frame *frame)
+static bool are_same(const char *title, enum side side, uint64_t proved, uint64_t other)
 {
-    uint8_t *slot = work.slots + SLOT * number;
+    if (proved != other)
+        fprintf(stderr, "%s: the proved code gives %llu, %s C %llu\n", title, (unsigned long long)proved,
+                side_names[side], (unsigned long long)other);
+    return proved == other;
+}
+
+/* A frame's bundle, of which one in a hundred has its last byte changed; gives its length. */
+static uint8_t put_bundle(uint8_t *bytes, const struct frame *frame)
+{
     struct loose_bundle bundle = bundle_of(frame);
     if (chance(&script, 1))
         bundle.bytes[bundle.count - 1] ^= 1;
-    slot[0] = (uint8_t)bundle.count;
-    memcpy(slot + 1, bundle.bytes, bundle.count);
+    memcpy(bytes, bundle.bytes, bundle.count);
+    return (uint8_t)bundle.count;
 }
 
-/* The bundles on a line, each behind a silence that ends the one before it. */
-static void put_on_line(void)
+#include "beside_frames.c"
+#include "beside_register.c"
+
+/* ------------------------------------------------------------------------
+ * Rows
+ * ------------------------------------------------------------------------ */
+
+struct row {
+    const char *title;
+    void (*prepare)(uint32_t motors);
+    uint32_t motors; /* 0: not of the register */
+    uint64_t (*pass)(enum side side);
+    size_t things; /* that one pass goes through */
+    bool has_checked;
+};
+
+static const struct row rows[] = {
+    {"bytes through the reader's run", requests_to_board, 0, over_bytes, 0, false},
+    {"bundles read and written", requests_to_board, 0, over_bundles, SLOTS, false},
+    {"board turns over a mix of messages", requests_to_board, 0, over_turns, SLOTS, true},
+    {"register filings, 10 motors held", filings, 10, over_calls, CALLS, true},
+    {"register filings, 100 motors held", filings, 100, over_calls, CALLS, true},
+    {"register filings, 256 motors held", filings, 256, over_calls, CALLS, true},
+    {"strike outs and filings in turn, 10 motors held", strike_outs, 10, over_calls, CALLS, true},
+    {"strike outs and filings in turn, 100 motors held", strike_outs, 100, over_calls, CALLS, true},
+    {"strike outs and filings in turn, 256 motors held", strike_outs, 256, over_calls, CALLS, true},
+    {"forms read, 10 motors", stored_forms, 10, over_readings, FORM_CALLS, true},
+    {"forms read, 100 motors", stored_forms, 100, over_readings, FORM_CALLS, true},
+    {"forms read, 256 motors", stored_forms, 256, over_readings, FORM_CALLS, true},
+    {"forms written, 10 motors", stored_forms, 10, over_writings, FORM_CALLS, true},
+    {"forms written, 100 motors", stored_forms, 100, over_writings, FORM_CALLS, true},
+    {"forms written, 256 motors", stored_forms, 256, over_writings, FORM_CALLS, true},
+};
+
+enum { ROWS = sizeof rows / sizeof rows[0], ROUNDS = 31 };
+
+static void prepare(const struct row *row)
 {
-    work.count = 0;
-    for (size_t number = 0; number < SLOTS; number++) {
-        const uint8_t *slot = work.slots + SLOT * number;
-        for (size_t at = 0; at < slot[0]; at++) {
-            work.bytes[work.count] = slot[1 + at];
-            work.silences[work.count] = at == 0 ? SILENCE_THAT_ENDS : 0;
-            work.count++;
-        }
-    }
+    script = (struct script){.chance = 1};
+    clear_buffers();
+    row->prepare(row->motors);
 }
 
-/* Requests to a board that follows them, so that locks, moves and groups are met in every state. */
-static void requests_to_board(void)
+static bool has_side(const struct row *row, enum side side)
 {
-    struct board *board = &script.console.board;
-    script.console.has_board = true;
-    *board = fresh_board(&own);
-    for (size_t number = 0; number < SLOTS; number++) {
-        struct wire sent;
-        bool unlock = board->locked && chance(&script, 20);
-        struct frame request = unlock ? unlocking_request(&script) : any_request(&script);
-        put_slot(number, &request);
-        bundle_to_board(board, work.slots + SLOT * number + 1, work.slots[SLOT * number], &sent);
-    }
-    put_on_line();
-}
-
-static struct frame report_of(uint32_t node_id, bool position)
-{
-    struct frame report = {
-        .header = {.message = position ? POST_MOTOR_POSITION : POST_NODE_ADDR,
-                   .source = node_id,
-                   .destination = 0xFFFF00,
-                   .sender_type = OWN_TYPE},
-        .data_count = position ? 5 : 0,
-    };
-    if (position)
-        reading_data(&script, report.data);
-    return report;
-}
-
-/* So many motors name themselves; then they report their positions, in any order. */
-static void reports_of_motors(uint32_t motors)
-{
-    for (uint32_t number = 0; number < SLOTS; number++) {
-        bool position = number >= motors;
-        uint32_t motor = position ? below(&script, motors) : number;
-        struct frame report = report_of(0x010000 + 7 * motor, position);
-        put_slot(number, &report);
-    }
+    return side != CHECKED || row->has_checked;
 }
 
 /* ------------------------------------------------------------------------
  * Rounds
  * ------------------------------------------------------------------------ */
 
-typedef uint64_t run_over(const struct workload *work);
-
-/* A call that no compiler can leave out. */
-static uint64_t timed(run_over *volatile run, double *taken)
+static double now(void)
 {
-    struct timespec start, end;
-    clock_gettime(CLOCK_MONOTONIC, &start);
-    uint64_t given = run(&work);
-    clock_gettime(CLOCK_MONOTONIC, &end);
-    *taken = (double)(end.tv_sec - start.tv_sec) + (double)(end.tv_nsec - start.tv_nsec) / 1e9;
-    return given;
+    struct timespec time;
+    clock_gettime(CLOCK_MONOTONIC, &time);
+    return (double)time.tv_sec + (double)time.tv_nsec / 1e9;
+}
+
+/* Every side of a row, once, and what each took. */
+static bool same_answers(const struct row *row, double *taken)
+{
+    uint64_t given[SIDES];
+    for (enum side side = 0; side < SIDES; side++) {
+        if (!has_side(row, side))
+            continue;
+        double start = now();
+        given[side] = row->pass(side);
+        taken[side] = now() - start;
+        if (!are_same(row->title, side, given[PROVED], given[side]))
+            return false;
+    }
+    return row->motors == 0 || same_records(row->title);
 }
 
 static int by_size(const void *one, const void *other)
@@ -321,105 +146,55 @@ static int by_size(const void *one, const void *other)
     return (difference > 0) - (difference < 0);
 }
 
-static double median(double *values)
+static double median(double (*taken)[SIDES], enum side side)
 {
+    double values[ROUNDS];
+    for (size_t round = 0; round < ROUNDS; round++)
+        values[round] = taken[round][side];
     qsort(values, ROUNDS, sizeof *values, by_size);
     return values[ROUNDS / 2];
 }
 
-struct row {
-    const char *title;
-    uint32_t motors; /* 0: requests to a board; else reports of so many motors */
-    run_over *proved;
-    run_over *second;
-};
-
-static const struct row rows[] = {
-    {"bytes through the reader's run", 0, proved_reader, second_reader},
-    {"bundles read and written", 0, proved_bundles, second_bundles},
-    {"board turns over a mix of messages", 0, proved_board, second_board},
-    {"the same turns, C checking row 33 too", 0, proved_board, checked_board},
-    {"register filings, 10 motors held", 10, proved_register, second_register},
-    {"register filings, 100 motors held", 100, proved_register, second_register},
-    {"register filings, 256 motors held", 256, proved_register, second_register},
-};
-
-enum { ROWS = sizeof rows / sizeof rows[0] };
-
-static void prepare(const struct row *row)
-{
-    script = (struct script){.chance = 1};
-    if (row->motors == 0)
-        requests_to_board();
-    else
-        reports_of_motors(row->motors);
-}
-
-static bool are_same(const char *title, uint64_t proved, uint64_t second)
-{
-    if (proved != second)
-        fprintf(stderr, "%s: the proved code gives %llu, the second program's %llu\n", title,
-                (unsigned long long)proved, (unsigned long long)second);
-    return proved == second;
-}
-
-/* Both sides of a row, once. */
-static bool same_answer(const struct row *row, double *proved_taken, double *second_taken)
-{
-    uint64_t proved = timed(row->proved, proved_taken);
-    uint64_t second = timed(row->second, second_taken);
-    return are_same(row->title, proved, second);
-}
-
-/* Of settings that row 32 refuses, row 33 refuses every bundle. */
-static bool same_refusals(void)
-{
-    static const struct settings refused[] = {
-        {NODE_ID_FIRST - 1, OWN_TYPE, OWN_TRAVEL}, {NODE_ID_LAST + 1, OWN_TYPE, OWN_TRAVEL},
-        {OWN_ID, 0, OWN_TRAVEL},                   {OWN_ID, NODE_TYPE_LAST + 1, OWN_TRAVEL},
-        {OWN_ID, OWN_TYPE, TRAVEL_LEAST - 1},
-    };
-    requests_to_board();
-    for (size_t at = 0; at < sizeof refused / sizeof refused[0]; at++) {
-        uint64_t proved = proved_turns(&work, &refused[at]);
-        uint64_t second = turns_of(&work, &refused[at], checked_turn);
-        if (!are_same("row 33", proved, second))
-            return false;
-    }
-    return true;
-}
-
 static bool compare(const struct row *row)
 {
-    double proved_taken[ROUNDS], second_taken[ROUNDS];
+    double taken[ROUNDS][SIDES];
     prepare(row);
     for (size_t round = 0; round < ROUNDS; round++)
-        if (!same_answer(row, &proved_taken[round], &second_taken[round]))
+        if (!same_answers(row, taken[round]))
             return false;
-    printf("%s|%.2f\n", row->title, median(proved_taken) / median(second_taken));
+    printf("%s|%zu|", row->title, row->things > 0 ? row->things : work.count);
+    if (row->has_checked)
+        printf("%.2f|", median(taken, PROVED) / median(taken, CHECKED));
+    else
+        printf("-|");
+    printf("%.2f\n", median(taken, PROVED) / median(taken, UNCHECKED));
     return true;
 }
 
 static bool compare_answers(const struct row *row)
 {
-    double proved_taken, second_taken;
+    double taken[SIDES];
     prepare(row);
-    return same_answer(row, &proved_taken, &second_taken);
+    return same_answers(row, taken);
 }
 
-static void run_alone(const struct row *row, bool proved, uint32_t times)
+static bool read_side(const char *name, enum side *side)
 {
-    double taken;
-    prepare(row);
-    for (uint32_t round = 0; round < times; round++)
-        timed(proved ? row->proved : row->second, &taken);
+    for (*side = 0; *side < SIDES; ++*side)
+        if (strcmp(name, side_names[*side]) == 0)
+            return true;
+    return false;
 }
 
 int main(int count, char **arguments)
 {
     uint32_t row, times;
-    if (count == 4 && read_argument(arguments[1], &row) && row < ROWS && read_argument(arguments[3], &times)) {
-        run_alone(&rows[row], strcmp(arguments[2], "proved") == 0, times);
+    enum side side;
+    if (count == 4 && read_argument(arguments[1], &row) && row < ROWS && read_side(arguments[2], &side)
+        && has_side(&rows[row], side) && read_argument(arguments[3], &times)) {
+        prepare(&rows[row]);
+        while (times-- > 0)
+            rows[row].pass(side);
         return 0;
     }
     bool answers = count == 2 && strcmp(arguments[1], "answers") == 0;
