@@ -32,8 +32,6 @@ use Rattle.motors.specs.declared.motor.Motor.{Motor}
 use Rattle.motors.specs.declared.answer.Answer.the-variants.{Count}
 use Rattle.motors.proofs.Register.{the-count-is-the-number-of-records-held, each-record-is-before-the-later-ones, each-record-is-right}
 use Rattle.motors.proofs.FilingLaws.{
-  a-position-report-is-kept,
-  a-motor-that-names-itself-is-held,
   a-60h-changes-no-reading,
   every-other-motor-is-untouched,
   the-same-number-on-another-line-is-untouched,
@@ -46,6 +44,7 @@ use Rattle.form.proofs.FormLaws.{
   a-register-written-and-read-again-is-the-same,
   a-form-read-and-written-again-is-the-same,
   an-accepted-form-gives-a-sound-register,
+  the-count-is-the-one-stored,
 }
 use Rattle.promises.specs.Demand2.Frames.{Frames}
 use Rattle.promises.specs.Demand2.Board.{Board}
@@ -53,20 +52,24 @@ use Rattle.promises.specs.Demand2.Positions.{Positions}
 use Rattle.promises.specs.Demand2.Register.{Filed, StruckOut, Register}
 use Rattle.promises.specs.Demand2.StoredForm.{StoredForm}
 use Rattle.promises.specs.Demand2.{Demand2}
+use Rattle.promises.proofs.RegisterInRange.{found-exactly-when}
+use Rattle.promises.proofs.RegisterInRange.{sound-exactly-when as row-19-exactly-when}
+use Rattle.promises.proofs.Stored.{of-its-length, behind, buffer-length}
 use Rattle.promises.proofs.GroupTable.{group-table}
 use Rattle.promises.proofs.Events.{events}
 use Rattle.promises.proofs.Effects.{effects}
 use Rattle.promises.proofs.OneIp.{one-ip}
 use Rattle.promises.proofs.Answers.{answers}
 use Rattle.promises.proofs.Held.{in-range}
+use Rattle.promises.proofs.Readings.{read-from-the-bytes, named}
 use Rattle.promises.proofs.Fileable.{filed-exactly-when, struck-exactly-when}
 
 filed : (run : List Motor) (count line : ℕ) (b : List ℕ) (n : ℕ) → filedOf run count line b .answer ≡ Count n
     → Filed run count line b (filedOf run count line b .motors) n
 filed run count line b n e =
     record {
-      a-reading-is-found-under-line-and-NodeID = a-position-report-is-kept run count line b n e;
-      a-new-motor-that-names-itself-is-held = a-motor-that-names-itself-is-held run count line b n e;
+      a-reading-is-found-under-line-and-NodeID = read-from-the-bytes run count line b n e;
+      a-new-motor-that-names-itself-is-held = named run count line b n e;
       a-60h-changes-no-reading = a-60h-changes-no-reading run count line b n e;
       every-other-motor-is-as-before = every-other-motor-is-untouched run count line b n e;
       two-wings-one-number = the-same-number-on-another-line-is-untouched run count line b n e;
@@ -131,6 +134,8 @@ positions =
 register : Register
 register =
     record {
+      sound-exactly-when-row-19-does-not-apply = row-19-exactly-when;
+      found-exactly-when-it-stands-in-the-run = found-exactly-when;
       records-ascend-by-line-then-NodeID = each-record-is-before-the-later-ones;
       every-record-held-is-in-range = λ run count s place h. in-range _ (each-record-is-right run count s place h);
       filed-exactly-when-fileable = filed-exactly-when;
@@ -147,6 +152,10 @@ stored-form =
     record {
       form-written-is-read = a-register-written-and-read-again-is-the-same;
       what-is-read-is-written = a-form-read-and-written-again-is-the-same;
+      a-form-has-3-bytes-and-11-a-motor = of-its-length;
+      no-byte-behind-the-form-is-changed = behind;
+      the-buffer-keeps-its-length = buffer-length;
+      the-count-is-the-one-stored = the-count-is-the-one-stored;
       what-is-read-is-sound = an-accepted-form-gives-a-sound-register;
     }
 

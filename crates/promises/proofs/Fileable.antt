@@ -14,7 +14,7 @@ use Rattle.frame.specs.Layout.{message, source, headerOf, dataOf, dataCount}
 use Rattle.frame.specs.Reading.{IsFrame}
 use Rattle.frame.proofs.Frames.{frame-is-read}
 use Rattle.motors.specs.Motor.{aReading}
-use Rattle.motors.specs.Register.{held, soundOf, found, Sound}
+use Rattle.motors.specs.Register.{held, soundOf, found}
 use Rattle.motors.specs.Report.{percentIn, ipIn, reportTable, shownBy, reported, reportBy, reportOf}
 use Rattle.runs.specs.Ordered.{isSome, without}
 use Rattle.motors.specs.Order.{byLineAndNode}
@@ -24,7 +24,8 @@ use Rattle.motors.specs.declared.answer.Answer.the-variants.{Count}
 use Rattle.motors.specs.declared.answer.Next.{Next}
 use Rattle.motors.specs.declared.report.Report.{Report}
 use Rattle.motors.specs.declared.report.Report.the-variants.{Seen, Refused}
-use Rattle.motors.proofs.Sound.{sound-exactly-when}
+use Rattle.promises.specs.RegisterInRange.{RegisterInRange}
+use Rattle.promises.proofs.RegisterInRange.{sound-exactly-when}
 use Rattle.motors.proofs.Rows.{filed-by, as-reported, struck-by}
 use Rattle.motors.proofs.Shown.{seen}
 use Rattle.motors.proofs.Full.{never-both, taken-exactly-when}
@@ -85,8 +86,37 @@ module _ (run : List Motor) (count line : ℕ) (b : List ℕ) where
 
   -- ---- what is filed was fileable: each row that did not apply leaves its fact
   abbrev Asked : Report → Type 0
-  Asked (Seen m) = Sound run count → IsFrame b → HasAPlace → Fileable run count line b
+  Asked (Seen m) = Passed table
   Asked (Refused q) = Unit {0}
+
+  asked : Asked (reported line (headerOf b) (dataCount b) (dataOf b))
+  unfolding reported
+  asked = of-decided Asked table (Seen (shownBy line (headerOf b) (dataOf b))) (search) (λ facts. facts)
+
+  abbrev NoRowApplied : Type 0
+  NoRowApplied = (soundOf run count ≡ true) × (IsFrame b × (HasAPlace × Passed table))
+
+  by-report : soundOf run count ≡ true → (x : Report) → reportOf line b ≡ x → IsFiled → NoRowApplied
+  by-report ok (Seen m) e (n, a) =
+      let f = seen line b m e .0 in
+      let (l, k) = same-motor m e in
+      let place = taken-exactly-when run count m ok .1 (n, sym (answer-of (Seen m) ok e) ∙ a) in
+      (ok, (f, (rw (l, k) at place, subst Asked (sym (as-read f) ∙ e) asked)))
+  by-report ok (Refused q) e (n, a) = absurd (never-both _ n q a (answer-of (Refused q) ok e))
+
+  no-row-applied : IsFiled → NoRowApplied
+  no-row-applied (n, a) =
+      by-test (soundOf run count)
+      (λ ok. by-report ok (reportOf line b) refl (n, a))
+      (λ broken. absurd (never-both _ n Refusal.BrokenRegister a (ap (λ (y : Next). y .answer) (filed-by entered run count (reportOf line b) 0 broken))))
+
+  -- A 0Dh that is filed has the bytes of a reading.
+  pub a-report-filed-is-long : IsFiled → message b ≡ 0x0D → 5 ≤ dataCount b
+  a-report-filed-is-long filed m = by (no-row-applied filed .1 .1 .1 .1 .1 .1 .0)
+    where
+      by : HasItsReading → 5 ≤ dataCount b
+      by (inl other) = absurd (other m)
+      by (inr reading) = reading .0
 
   names-or-reports : NamesOrReports → HasItsReading → (message b ≡ 0x60) ⊎ Reports b
   names-or-reports (inl m) reading = inl m
@@ -94,10 +124,10 @@ module _ (run : List Motor) (count line : ℕ) (b : List ℕ) where
   names-or-reports (inr p) (inr (long, (percent, ip))) =
       inr (record { is-0Dh = p; from-5-bytes-of-DATA = long; percent-to-100 = percent; IP-1-to-16-or-FFh = ⊎-elim inr inl ip })
 
-  facts : Passed table → Sound run count → IsFrame b → HasAPlace → Fileable run count line b
-  facts (few, (sender, (named, (reading, end)))) ok f place =
+  facts : NoRowApplied → Fileable run count line b
+  facts (ok, (f, (place, (few, (sender, (named, (reading, end))))))) =
       record {
-        sound-register = ok;
+        sound-register = sound-exactly-when run count .1 ok;
         is-frame = f;
         from-line-0-to-3 = few;
         sender-from-000001h = sender .0 .0;
@@ -107,26 +137,8 @@ module _ (run : List Motor) (count line : ℕ) (b : List ℕ) where
         has-a-place = place;
       }
 
-  asked : Asked (reported line (headerOf b) (dataCount b) (dataOf b))
-  unfolding reported
-  asked = of-decided Asked table (Seen (shownBy line (headerOf b) (dataOf b))) (search) facts
-
-  reported-was-fileable : soundOf run count ≡ true → (x : Report) → reportOf line b ≡ x → IsFiled → Fileable run count line b
-  reported-was-fileable ok (Seen m) e (n, a) =
-      let f = seen line b m e .0 in
-      let (l, k) = same-motor m e in
-      let place = taken-exactly-when run count m ok .1 (n, sym (answer-of (Seen m) ok e) ∙ a) in
-      subst Asked (sym (as-read f) ∙ e) asked (sound-exactly-when run count .1 ok) f (rw (l, k) at place)
-  reported-was-fileable ok (Refused q) e (n, a) = absurd (never-both _ n q a (answer-of (Refused q) ok e))
-
-  filed-was-fileable : IsFiled → Fileable run count line b
-  filed-was-fileable (n, a) =
-      by-test (soundOf run count)
-      (λ ok. reported-was-fileable ok (reportOf line b) refl (n, a))
-      (λ broken. absurd (never-both _ n Refusal.BrokenRegister a (ap (λ (y : Next). y .answer) (filed-by entered run count (reportOf line b) 0 broken))))
-
   pub filed-exactly-when : Fileable run count line b ↔ IsFiled
-  filed-exactly-when = (fileable-is-filed, filed-was-fileable)
+  filed-exactly-when = (fileable-is-filed, λ filed. facts (no-row-applied filed))
 
 -- ---- striking out
 module _ (run : List Motor) (count line node : ℕ) where

@@ -9,7 +9,7 @@ use borrow.Author.Tests.{leb-true, eqb-true}
 use Rattle.meaning.specs.Cases.{by-test, passed-both}
 use Rattle.motors.specs.Motor.{marked, isLine, aNode, isNode, aReading, isReading, unreadPart, readingPart, rightBesideLine, rightOf}
 use Rattle.motors.specs.declared.motor.Motor.{Motor}
-use Rattle.promises.specs.Demand2.Register.{InRange}
+use Rattle.promises.specs.RegisterInRange.{InRange}
 
 unread-is : (m : Motor) → unreadPart m ≡ true → (m .mark ≡ 0) × ((m .pulse ≡ 0) × ((m .percent ≡ 0) × (m .ip ≡ 0)))
 unfolding unreadPart

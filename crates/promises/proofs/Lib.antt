@@ -4,9 +4,12 @@ pub mod Effects
 pub mod OneIp
 pub mod Answers
 pub mod Held
+pub mod RegisterInRange
 pub mod First
 pub mod Rows
 pub mod Fileable
+pub mod Readings
+pub mod Stored
 pub mod Demand1
 pub mod Demand2
 pub mod Demand3

@@ -43,7 +43,7 @@ use Rattle.messages.specs.Table.{outcomeOf}
 use Rattle.node.specs.Frames.{turnOf, turnBy}
 use Rattle.node.specs.Meant.{meant}
 use Rattle.meaning.specs.Membership.{IsOneOf, as-first}
-use Rattle.motors.specs.Register.{held, soundOf, found, Sound as SoundRegister}
+use Rattle.motors.specs.Register.{held, soundOf, found}
 use Rattle.motors.specs.Report.{reportTable, shownBy, reported, reportBy, reportOf}
 use Rattle.runs.specs.Ordered.{without}
 use Rattle.motors.specs.Order.{byLineAndNode}
@@ -54,7 +54,8 @@ use Rattle.motors.specs.declared.answer.Answer.{Answer}
 use Rattle.motors.specs.declared.answer.Answer.the-variants.{Count}
 use Rattle.motors.specs.declared.report.Report.{Report}
 use Rattle.motors.specs.declared.report.Report.the-variants.{Seen}
-use Rattle.motors.proofs.Sound.{sound-exactly-when}
+use Rattle.promises.specs.RegisterInRange.{RegisterInRange}
+use Rattle.promises.proofs.RegisterInRange.{sound-exactly-when}
 use Rattle.motors.proofs.Full.{beyond-exactly-when}
 use Rattle.form.specs.Layout.{countIn, formLength}
 use Rattle.form.specs.FormOne.{formOne}
@@ -251,11 +252,11 @@ abbrev left : Next → ℕ
 left x = registerNumber (x .answer)
 
 -- Row 19 is told by the facts of a sound register.
-unsound : (run : List Motor) (count : ℕ) → (soundOf run count ≡ false) ↔ (¬ SoundRegister run count)
+unsound : (run : List Motor) (count : ℕ) → (soundOf run count ≡ false) ↔ (¬ RegisterInRange run count)
 unsound run count = fails-exactly-when (soundOf run count) (sound-exactly-when run count)
 
 strike-out : (run : List Motor) (count line node : ℕ)
-    → FirstOf (19 when (¬ SoundRegister run count) ∷ 20 when (3 < line) ∷ 25 when (found run count line node ≡ none) ∷ [])
+    → FirstOf (19 when (¬ RegisterInRange run count) ∷ 20 when (3 < line) ∷ 25 when (found run count line node ≡ none) ∷ [])
     (left (struckOf run count line node))
 unfolding struckOf
 strike-out run count line node =
@@ -319,7 +320,7 @@ read-form : (run : List Motor) (b : List ℕ) → FirstOf (readFormRows run b) (
 read-form run b = subst (λ (a : Answer). FirstOf (readFormRows run b) (registerNumber a)) (the-check-is-the-answer run b) (check-form run b)
 
 write-form : (run : List Motor) (count : ℕ) (buffer : List ℕ)
-    → FirstOf (19 when (¬ SoundRegister run count) ∷ 45 when (length buffer < 3 + 11 * count) ∷ []) (formNumber (writtenOf run count (length buffer)))
+    → FirstOf (19 when (¬ RegisterInRange run count) ∷ 45 when (length buffer < 3 + 11 * count) ∷ []) (formNumber (writtenOf run count (length buffer)))
 unfolding writtenOf
 write-form run count buffer =
     let table = writeFormTable run count (length buffer) in

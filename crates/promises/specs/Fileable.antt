@@ -8,10 +8,11 @@ use mathlib.Core.Bool.{true}
 use mathlib.Core.List.{List}
 use Rattle.frame.specs.Layout.{message, source, destination, dataOf, dataCount}
 use Rattle.frame.specs.Reading.{IsFrame}
-use Rattle.motors.specs.Register.{found, Sound}
+use Rattle.motors.specs.Register.{found}
 use Rattle.motors.specs.Report.{percentIn, ipIn}
 use Rattle.runs.specs.Ordered.{isSome}
 use Rattle.motors.specs.declared.motor.Motor.{Motor}
+use Rattle.promises.specs.RegisterInRange.{RegisterInRange}
 
 -- A 0Dh with a reading in it (row 23).
 pub record Reports (b : List ℕ) : Type 0 where
@@ -22,7 +23,7 @@ pub record Reports (b : List ℕ) : Type 0 where
 
 pub record Fileable (run : List Motor) (count line : ℕ) (b : List ℕ) : Type 0 where
   -- row 19: 256 places, at most 256 records, in order, zeros behind them
-  pub sound-register : Sound run count
+  pub sound-register : RegisterInRange run count
   -- rows 1 to 6
   pub is-frame : IsFrame b
   -- row 20
@@ -38,7 +39,7 @@ pub record Fileable (run : List Motor) (count line : ℕ) (b : List ℕ) : Type 
 
 pub record Strikeable (run : List Motor) (count line node : ℕ) : Type 0 where
   -- row 19
-  pub sound-register : Sound run count
+  pub sound-register : RegisterInRange run count
   -- row 20
   pub on-line-0-to-3 : line ≤ 3
   -- row 25

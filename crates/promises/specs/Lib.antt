@@ -1,10 +1,11 @@
--- What the customer is promised. Read Demand1, Demand2, Demand3, Figures, Determined and Contracts; Numbers, Rows and
--- Fileable say words that the demands use.
+-- What the customer is promised. Read Demand1, Demand2, Demand3, Figures, Determined and Contracts; Numbers, Rows,
+-- RegisterInRange and Fileable say words that the demands use.
 -- Signs: `→` then, `×` and, `⊎` or, `¬` not, `↔` exactly when, `≡` is, `≢` is not, `x .f` the field f of x, `(x : T) →`
 -- for every x, `(x : T) ×` for some x.
 -- `Contracts` says that the contracts in the source are the meanings that the demands speak of, function by function:
 -- `readingOf`, `stepOf`, `turnOf` and so on.
 pub mod Numbers
+pub mod RegisterInRange
 pub mod Rows
 pub mod Fileable
 pub mod Demand1

@@ -21,7 +21,7 @@ use Rattle.board.specs.Ranges.{SettingsInRange, BoardInRange}
 use Rattle.board.specs.Groups.{Groups}
 use Rattle.node.specs.Frames.{turnOf}
 use Rattle.meaning.specs.Membership.{IsOneOf}
-use Rattle.motors.specs.Register.{found, Sound}
+use Rattle.motors.specs.Register.{found}
 use Rattle.motors.specs.Report.{percentIn, ipIn}
 use Rattle.motors.specs.Filing.{filedOf, struckOf}
 use Rattle.motors.specs.declared.motor.Motor.{Motor}
@@ -29,6 +29,7 @@ use Rattle.form.specs.Layout.{countIn, contentsRight, bodiesRight}
 use Rattle.form.specs.FormOne.{formOne}
 use Rattle.form.specs.Reading.{readOf}
 use Rattle.form.specs.Writing.{writtenOf}
+use Rattle.promises.specs.RegisterInRange.{RegisterInRange}
 use Rattle.promises.specs.Numbers.{
   readNumber,
   writeNumber,
@@ -92,7 +93,7 @@ openRows r = 2 when (31 < r .count) ∷ in-case (r .count ≢ 0) (bundleRows (ta
 -- ---- the register
 abbrev pub fileRows : List Motor → (count line : ℕ) → List ℕ → List Row
 fileRows run count line b =
-    19 when (¬ Sound run count)
+    19 when (¬ RegisterInRange run count)
     ∷ bundleRows b
     ++ (20 when (3 < line)
     ∷ 21 when (((source b .0 < 0x000001) ⊎ (0xFFFEFF < source b .0)) ⊎ (destination b .0 ≡ 0x000000))
@@ -106,8 +107,8 @@ abbrev pub readFormRows : List Motor → List ℕ → List Row
 readFormRows run b =
     19 when (length run ≢ 256)
     ∷ 40 when ((length b < 3) ⊎ (getD b 0 0 ≢ 1))
-    ∷ 41 when (256 < countIn b)
-    ∷ 42 when (length b ≢ 3 + 11 * countIn b)
+    ∷ 41 when (256 < getD b 1 0 + 256 * getD b 2 0)
+    ∷ 42 when (length b ≢ 3 + 11 * (getD b 1 0 + 256 * getD b 2 0))
     ∷ 43 when (contentsRight formOne (countIn b) b ≡ false)
     ∷ 44 when (bodiesRight formOne (countIn b) b ≡ false)
     ∷ []
@@ -147,8 +148,8 @@ pub record Rows : Type 1 where
       → FirstOf (fileRows run count line b) (registerNumber (filedOf run count line b .answer))
   pub strike-out :
       (run : List Motor) (count line node : ℕ)
-      → FirstOf (19 when (¬ Sound run count) ∷ 20 when (3 < line) ∷ 25 when (found run count line node ≡ none) ∷ []) (registerNumber (struckOf run count line node .answer))
+      → FirstOf (19 when (¬ RegisterInRange run count) ∷ 20 when (3 < line) ∷ 25 when (found run count line node ≡ none) ∷ []) (registerNumber (struckOf run count line node .answer))
   pub read-form : (run : List Motor) (b : List ℕ) → FirstOf (readFormRows run b) (registerNumber (readOf run b .answer))
   pub write-form :
       (run : List Motor) (count : ℕ) (buffer : List ℕ)
-      → FirstOf (19 when (¬ Sound run count) ∷ 45 when (length buffer < 3 + 11 * count) ∷ []) (formNumber (writtenOf run count (length buffer)))
+      → FirstOf (19 when (¬ RegisterInRange run count) ∷ 45 when (length buffer < 3 + 11 * count) ∷ []) (formNumber (writtenOf run count (length buffer)))

@@ -1,34 +1,38 @@
 -- Demand 2, the register: each reading is filed under line AND NodeID, and no other motor's record is touched.
 -- Assumes nothing.
-use Prim.Native.Nat.{ℕ, _+_, _≤_, _<_}
+use Prim.Native.Nat.{ℕ, _+_, _-_, _*_, _<_}
 use mathlib.Core.Path.{_≡_}
 use mathlib.Core.Logic.{_≢_, _↔_, _⊎_}
 use mathlib.Core.Bool.{true, false}
 use mathlib.Core.List.{List}
 use mathlib.Core.Option.{none, some}
 use lib.ListN.{getD}
-use Rattle.frame.specs.Layout.{message, source, dataOf}
+use Rattle.frame.specs.Layout.{message, source}
 use Rattle.motors.specs.{
-  Motor.{unread, withReading, zeros},
+  Motor.{zeros},
   Register.{held, soundOf, found},
-  Report.{pulseIn, percentIn, ipIn},
   Filing.{filedOf, struckOf},
   declared.{motor.Motor.{Motor}, answer.Answer.the-variants.{Count}},
 }
 use Rattle.runs.specs.Ordered.{isSome}
 use Rattle.motors.specs.Register.{occupied}
 use Rattle.motors.specs.Filing.{countAfter}
+use Rattle.promises.specs.RegisterInRange.{Before, InRange, Holds, at, RegisterInRange}
 use Rattle.promises.specs.Fileable.{Fileable, Strikeable}
+
+-- A byte of a bundle, turned back from how it is sent.
+abbrev pub raw : List ℕ → ℕ → ℕ
+raw b place = 255 - getD b place 0
 
 -- What holds when a bundle from a line is filed in a run with its count: then `n` motors are held, in the run `after`.
 pub record Filed (run : List Motor) (count line : ℕ) (b : List ℕ) (after : List Motor) (n : ℕ) : Type 0 where
   pub a-reading-is-found-under-line-and-NodeID :
       message b ≡ 0x0D
-      → found after n line (source b .0)
-      ≡ some (withReading line (source b .0) (pulseIn (dataOf b)) (percentIn (dataOf b)) (ipIn (dataOf b)))
+      → (m : Motor) × ((found after n line (source b .0) ≡ some m)
+      × Holds m line (source b .0) 1 (raw b 9 + 256 * raw b 10) (raw b 11) (raw b 13))
   pub a-new-motor-that-names-itself-is-held :
       message b ≡ 0x60 → found run count line (source b .0) ≡ none
-      → found after n line (source b .0) ≡ some (unread line (source b .0))
+      → (m : Motor) × ((found after n line (source b .0) ≡ some m) × Holds m line (source b .0) 0 0 0 0)
   pub a-60h-changes-no-reading :
       message b ≡ 0x60 → (m : Motor) → found run count line (source b .0) ≡ some m
       → found after n line (source b .0) ≡ some m
@@ -47,20 +51,12 @@ pub record StruckOut (run : List Motor) (count line node : ℕ) (after : List Mo
       → found after n line′ node′ ≡ found run count line′ node′
   pub its-place-is-given-back : n + 1 ≡ count
 
--- Strictly ascending: line, then NodeID as a number.
-abbrev pub Before : Motor → Motor → Type 0
-Before x y = (x .line < y .line) ⊎ ((x .line ≡ y .line) × (x .node < y .node))
-
--- The fields of a record held.
-pub record InRange (m : Motor) : Type 0 where
-  pub line-0-to-3 : m .line ≤ 3
-  pub NodeID-from-000001h : 0x000001 ≤ m .node
-  pub NodeID-to-FFFEFFh : m .node ≤ 0xFFFEFF
-  pub mark-0-or-1 : (m .mark ≡ 0) ⊎ (m .mark ≡ 1)
-  pub with-a-reading : m .mark ≡ 1 → (m .percent ≤ 100) × (((1 ≤ m .ip) × (m .ip ≤ 16)) ⊎ (m .ip ≡ 0xFF))
-  pub without-one-zeros : m .mark ≡ 0 → (m .pulse ≡ 0) × ((m .percent ≡ 0) × (m .ip ≡ 0))
-
 pub record Register : Type 0 where
+  pub sound-exactly-when-row-19-does-not-apply : (run : List Motor) (count : ℕ) → RegisterInRange run count ↔ (soundOf run count ≡ true)
+  pub found-exactly-when-it-stands-in-the-run :
+      (run : List Motor) (count : ℕ) → soundOf run count ≡ true → (line node : ℕ) (m : Motor)
+      → (found run count line node ≡ some m)
+      ↔ ((place : ℕ) × ((place < count) × ((at run place ≡ m) × ((m .line ≡ line) × (m .node ≡ node)))))
   pub records-ascend-by-line-then-NodeID :
       (run : List Motor) (count : ℕ) → soundOf run count ≡ true → (first later : ℕ) → first < later → later < count
       → Before (getD (held run count) first zeros) (getD (held run count) later zeros)
