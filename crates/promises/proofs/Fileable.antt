@@ -29,7 +29,9 @@ use Rattle.promises.proofs.RegisterInRange.{sound-exactly-when}
 use Rattle.motors.proofs.Rows.{filed-by, as-reported, struck-by}
 use Rattle.motors.proofs.Shown.{seen}
 use Rattle.motors.proofs.Full.{never-both, taken-exactly-when}
+use Rattle.promises.specs.Wire.{raw}
 use Rattle.promises.specs.Fileable.{Fileable, Reports, Strikeable}
+use Rattle.promises.proofs.ReportBytes.{report-byte}
 
 module _ (run : List Motor) (count line : ℕ) (b : List ℕ) where
   abbrev HasAPlace : Type 0
@@ -50,12 +52,21 @@ module _ (run : List Motor) (count line : ℕ) (b : List ℕ) where
   answer-of : (x : Report) → soundOf run count ≡ true → reportOf line b ≡ x → filedOf run count line b .answer ≡ reportedBy entered run count x .answer
   answer-of x ok e = ap (λ (r : Report). filingOf entered run count r .answer) e ∙ ap (λ (y : Next). y .answer) (as-reported entered run count x ok)
 
+  abbrev AReading : Type 0
+  AReading = aReading (percentIn (dataOf b)) (ipIn (dataOf b)) .fact
+
+  percent-byte : 5 ≤ dataCount b → percentIn (dataOf b) ≡ raw b 11
+  percent-byte long = report-byte b long 2 (omega arith)
+
+  ip-byte : 5 ≤ dataCount b → ipIn (dataOf b) ≡ raw b 13
+  ip-byte long = report-byte b long 4 (omega arith)
+
   -- What rows 22 and 23 leave of a message that they pass.
   abbrev NamesOrReports : Type 0
   NamesOrReports = (message b ≡ 0x60) ⊎ (message b ≡ 0x0D)
 
   abbrev HasItsReading : Type 0
-  HasItsReading = (message b ≢ 0x0D) ⊎ ((5 ≤ dataCount b) × aReading (percentIn (dataOf b)) (ipIn (dataOf b)) .fact)
+  HasItsReading = (message b ≢ 0x0D) ⊎ ((5 ≤ dataCount b) × AReading)
 
   -- ---- what is fileable shows a motor, and is filed
   abbrev table : List (Row Report)
@@ -68,7 +79,9 @@ module _ (run : List Motor) (count line : ℕ) (b : List ℕ) where
       by : (message b ≡ 0x60) ⊎ Reports b → NamesOrReports × (HasItsReading × Unit {0})
       by (inl m) = (inl m, (inl (λ e. omega arith), tt))
       by (inr r) =
-          (inr (r .is-0Dh), (inr (r .from-5-bytes-of-DATA, (r .percent-to-100, ⊎-elim inr inl (r .IP-1-to-16-or-FFh))), tt))
+          let long = r .from-5-bytes-of-DATA in
+          let reading : AReading = rw (percent-byte long, ip-byte long) (r .percent-to-100, ⊎-elim inr inl (r .IP-1-to-16-or-FFh)) in
+          (inr (r .is-0Dh), (inr (long, reading), tt))
 
   shows : Fileable run count line b → (m : Motor) × (reportOf line b ≡ Seen m)
   unfolding reported
@@ -121,7 +134,8 @@ module _ (run : List Motor) (count line : ℕ) (b : List ℕ) where
   names-or-reports : NamesOrReports → HasItsReading → (message b ≡ 0x60) ⊎ Reports b
   names-or-reports (inl m) reading = inl m
   names-or-reports (inr p) (inl other) = absurd (other p)
-  names-or-reports (inr p) (inr (long, (percent, ip))) =
+  names-or-reports (inr p) (inr (long, reading)) =
+      let (percent, ip) = rw (percent-byte long, ip-byte long) at reading in
       inr (record { is-0Dh = p; from-5-bytes-of-DATA = long; percent-to-100 = percent; IP-1-to-16-or-FFh = ⊎-elim inr inl ip })
 
   facts : NoRowApplied → Fileable run count line b

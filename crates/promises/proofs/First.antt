@@ -67,6 +67,24 @@ retold [] same (none-applies o) = none-applies o
 retold (number when told ∷ rows) same (applies f) = applies (same .0 f)
 retold (number when told ∷ rows) same (passes n l) = passes (λ f. n (same .1 f)) l
 
+-- Tables that say the same row by row; a row is compared where those before it do not apply.
+pub data Alike : List Row → List Row → Type 1 where
+  at-the-end : Alike [] []
+  in-other-words : {number : ℕ} {fact told : Type 0} {rows more : List Row} → fact ↔ told → (¬ fact → Alike rows more)
+      → Alike (number when fact ∷ rows) (number when told ∷ more)
+
+-- A row that stays as it is.
+pub as-it-is : {number : ℕ} {fact : Type 0} {rows more : List Row} → (¬ fact → Alike rows more)
+    → Alike (number when fact ∷ rows) (number when fact ∷ more)
+as-it-is later = in-other-words (λ f. f, λ f. f) later
+
+-- They give the same number.
+pub same-number : {otherwise : ℕ → Type 0} {rows more : List Row} {given : ℕ} → Alike rows more → First otherwise rows given
+    → First otherwise more given
+same-number at-the-end (none-applies o) = none-applies o
+same-number (in-other-words same later) (applies f) = applies (same .0 f)
+same-number (in-other-words same later) (passes n l) = passes (λ f. n (same .1 f)) (same-number (later n) l)
+
 -- A check that decides some facts fails exactly when they do not hold.
 pub fails-exactly-when : {facts : Type 0} (t : Bool) → facts ↔ (t ≡ true) → (t ≡ false) ↔ (¬ facts)
 fails-exactly-when true decides = (λ e f. false≢true (sym e), λ n. absurd (n (decides .1 refl)))

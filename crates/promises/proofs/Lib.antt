@@ -6,6 +6,7 @@ pub mod Answers
 pub mod Held
 pub mod RegisterInRange
 pub mod First
+pub mod ReportBytes
 pub mod Rows
 pub mod Fileable
 pub mod Readings

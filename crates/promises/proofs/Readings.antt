@@ -7,7 +7,6 @@ use mathlib.Core.List.{List}
 use mathlib.Core.Option.{none, some}
 use lib.ListN.{getD}
 use Rattle.frame.specs.Layout.{message, source, dataOf, dataCount}
-use Rattle.frame.proofs.Content.{data-at}
 use Rattle.motors.specs.{
   Motor.{unread, withReading},
   Register.{found},
@@ -17,8 +16,9 @@ use Rattle.motors.specs.{
 }
 use Rattle.motors.proofs.FilingLaws.{a-position-report-is-kept, a-motor-that-names-itself-is-held}
 use Rattle.promises.specs.RegisterInRange.{Holds}
-use Rattle.promises.specs.Demand2.Register.{raw}
+use Rattle.promises.specs.Wire.{raw}
 use Rattle.promises.proofs.Fileable.{a-report-filed-is-long}
+use Rattle.promises.proofs.ReportBytes.{report-byte}
 
 -- The DATA of a 0Dh that is filed, in the bundle's own bytes.
 module _ (run : List Motor) (count line : ℕ) (b : List ℕ) (n : ℕ) (e : filedOf run count line b .answer ≡ Count n) (position : message b ≡ 0x0D) where
@@ -26,7 +26,7 @@ module _ (run : List Motor) (count line : ℕ) (b : List ℕ) (n : ℕ) (e : fil
   long = a-report-filed-is-long run count line b (n, e) position
 
   byte : (i : ℕ) → i < 5 → getD (dataOf b) i 0 ≡ raw b (9 + i)
-  byte i h = data-at b i (omega (arith, h, long))
+  byte i h = report-byte b long i h
 
   pub read-from-the-bytes : (m : Motor) × ((found (filedOf run count line b .motors) n line (source b .0) ≡ some m)
       × Holds m line (source b .0) 1 (raw b 9 + 256 * raw b 10) (raw b 11) (raw b 13))

@@ -56,6 +56,7 @@ use Rattle.motors.specs.declared.report.Report.{Report}
 use Rattle.motors.specs.declared.report.Report.the-variants.{Seen}
 use Rattle.promises.specs.RegisterInRange.{RegisterInRange}
 use Rattle.promises.proofs.RegisterInRange.{sound-exactly-when}
+use Rattle.promises.proofs.ReportBytes.{bad-by-its-bytes}
 use Rattle.motors.proofs.Full.{beyond-exactly-when}
 use Rattle.form.specs.Layout.{countIn, formLength}
 use Rattle.form.specs.FormOne.{formOne}
@@ -77,6 +78,7 @@ use Rattle.promises.specs.Rows.{
   writerRows,
   brokenReader,
   openRows,
+  reportRows,
   fileRows,
   readFormRows,
   Rows,
@@ -89,6 +91,10 @@ use Rattle.promises.proofs.First.{
   first,
   first-then,
   retold,
+  same-number,
+  at-the-end,
+  in-other-words,
+  as-it-is,
   fails-exactly-when,
   case-holds,
   case-fails,
@@ -288,20 +294,20 @@ module _ (run : List Motor) (count line : ℕ) (b : List ℕ) where
   entering ok = retold (numbered left (keepTable run (entered (held run count) shown))) (full ok)
       (first left (keepTable run (entered (held run count) shown)) (keeping (entered (held run count) shown)) refl)
 
-  -- Rows 20 to 24, of a frame.
-  abbrev reportRows : List Row
-  reportRows = numbered reportNumber (reportTable line (headerOf b) (dataCount b) (dataOf b)) ++ (24 when FullRow ∷ [])
-
-  reporting : soundOf run count ≡ true → FirstOf reportRows (reportNumber (reported line (headerOf b) (dataCount b) (dataOf b)))
+  -- Rows 20 to 24, of a frame; row 23 asks DATA, as the bundle's bytes have it.
+  reporting : soundOf run count ≡ true
+      → FirstOf (reportRows run count line b) (reportNumber (reported line (headerOf b) (dataCount b) (dataOf b)))
   unfolding reported
   reporting ok =
-      first-then reportNumber (reportTable line (headerOf b) (dataCount b) (dataOf b)) (Seen shown) (24 when FullRow ∷ []) (λ facts. entering ok)
+      let table = reportTable line (headerOf b) (dataCount b) (dataOf b) in
+      same-number (as-it-is λ p. as-it-is λ q. as-it-is λ r. in-other-words (bad-by-its-bytes b) λ s. as-it-is λ t. at-the-end)
+      (first-then reportNumber table (Seen shown) (24 when FullRow ∷ []) (λ facts. entering ok))
 
   -- Rows 1 to 6 come first.
-  reading : soundOf run count ≡ true → FirstOf (bundleRows b ++ reportRows) (reportNumber (reportOf line b))
+  reading : soundOf run count ≡ true → FirstOf (bundleRows b ++ reportRows run count line b) (reportNumber (reportOf line b))
   unfolding readingOf
   reading ok =
-      first-then (λ (x : Reading). reportNumber (reportBy line b x)) (bundleTable b) (Reading.Frame (headerOf b) (dataCount b)) reportRows
+      first-then (λ (x : Reading). reportNumber (reportBy line b x)) (bundleTable b) (Reading.Frame (headerOf b) (dataCount b)) (reportRows run count line b)
       (λ facts. reporting ok)
 
 file : (run : List Motor) (count line : ℕ) (b : List ℕ) → FirstOf (fileRows run count line b) (left (filedOf run count line b))

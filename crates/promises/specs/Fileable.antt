@@ -6,20 +6,19 @@ use mathlib.Core.Path.{_≡_}
 use mathlib.Core.Logic.{_≢_, _⊎_}
 use mathlib.Core.Bool.{true}
 use mathlib.Core.List.{List}
-use Rattle.frame.specs.Layout.{message, source, destination, dataOf, dataCount}
 use Rattle.frame.specs.Reading.{IsFrame}
 use Rattle.motors.specs.Register.{found}
-use Rattle.motors.specs.Report.{percentIn, ipIn}
 use Rattle.runs.specs.Ordered.{isSome}
 use Rattle.motors.specs.declared.motor.Motor.{Motor}
+use Rattle.promises.specs.Wire.{raw, message, source, destination, dataCount}
 use Rattle.promises.specs.RegisterInRange.{RegisterInRange}
 
 -- A 0Dh with a reading in it (row 23).
 pub record Reports (b : List ℕ) : Type 0 where
   pub is-0Dh : message b ≡ 0x0D
   pub from-5-bytes-of-DATA : 5 ≤ dataCount b
-  pub percent-to-100 : percentIn (dataOf b) ≤ 100
-  pub IP-1-to-16-or-FFh : ((1 ≤ ipIn (dataOf b)) × (ipIn (dataOf b) ≤ 16)) ⊎ (ipIn (dataOf b) ≡ 0xFF)
+  pub percent-to-100 : raw b 11 ≤ 100
+  pub IP-1-to-16-or-FFh : ((1 ≤ raw b 13) × (raw b 13 ≤ 16)) ⊎ (raw b 13 ≡ 0xFF)
 
 pub record Fileable (run : List Motor) (count line : ℕ) (b : List ℕ) : Type 0 where
   -- row 19: 256 places, at most 256 records, in order, zeros behind them
@@ -29,13 +28,13 @@ pub record Fileable (run : List Motor) (count line : ℕ) (b : List ℕ) : Type 
   -- row 20
   pub from-line-0-to-3 : line ≤ 3
   -- row 21
-  pub sender-from-000001h : 0x000001 ≤ source b .0
-  pub sender-to-FFFEFFh : source b .0 ≤ 0xFFFEFF
-  pub not-to-a-group : destination b .0 ≢ 0x000000
+  pub sender-from-000001h : 0x000001 ≤ source b
+  pub sender-to-FFFEFFh : source b ≤ 0xFFFEFF
+  pub not-to-a-group : destination b ≢ 0x000000
   -- rows 22 and 23
   pub names-or-reports : (message b ≡ 0x60) ⊎ Reports b
   -- row 24: the motor is held already, or there is a place for one more
-  pub has-a-place : (isSome (found run count line (source b .0)) ≡ true) ⊎ (count < 256)
+  pub has-a-place : (isSome (found run count line (source b)) ≡ true) ⊎ (count < 256)
 
 pub record Strikeable (run : List Motor) (count line node : ℕ) : Type 0 where
   -- row 19

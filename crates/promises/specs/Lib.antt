@@ -4,6 +4,8 @@
 -- for every x, `(x : T) ×` for some x.
 -- `Contracts` says that the contracts in the source are the meanings that the demands speak of, function by function:
 -- `readingOf`, `stepOf`, `turnOf` and so on.
+pub mod Wire
+pub mod BoardParts
 pub mod Numbers
 pub mod RegisterInRange
 pub mod Rows

@@ -7,7 +7,6 @@ use mathlib.Core.Bool.{false}
 use mathlib.Core.List.{List, [], _∷_, _++_}
 use mathlib.Core.Option.{none}
 use lib.ListN.{length, getD, take, drop}
-use Rattle.frame.specs.Layout.{message, ext, len, summed, stated, source, destination, dataOf, dataCount}
 use Rattle.frame.specs.Reading.{readingOf}
 use Rattle.frame.specs.Writing.{writingOf}
 use Rattle.frame.specs.declared.header.Header.{Header}
@@ -22,13 +21,13 @@ use Rattle.board.specs.Groups.{Groups}
 use Rattle.node.specs.Frames.{turnOf}
 use Rattle.meaning.specs.Membership.{IsOneOf}
 use Rattle.motors.specs.Register.{found}
-use Rattle.motors.specs.Report.{percentIn, ipIn}
 use Rattle.motors.specs.Filing.{filedOf, struckOf}
 use Rattle.motors.specs.declared.motor.Motor.{Motor}
 use Rattle.form.specs.Layout.{countIn, contentsRight, bodiesRight}
 use Rattle.form.specs.FormOne.{formOne}
 use Rattle.form.specs.Reading.{readOf}
 use Rattle.form.specs.Writing.{writtenOf}
+use Rattle.promises.specs.Wire.{raw, message, ext, len, summed, stated, source, destination, dataCount}
 use Rattle.promises.specs.RegisterInRange.{RegisterInRange}
 use Rattle.promises.specs.Numbers.{
   readNumber,
@@ -91,16 +90,22 @@ abbrev pub openRows : Reader → List Row
 openRows r = 2 when (31 < r .count) ∷ in-case (r .count ≢ 0) (bundleRows (take (r .count) (r .kept)))
 
 -- ---- the register
-abbrev pub fileRows : List Motor → (count line : ℕ) → List ℕ → List Row
-fileRows run count line b =
-    19 when (¬ RegisterInRange run count)
-    ∷ bundleRows b
-    ++ (20 when (3 < line)
-    ∷ 21 when (((source b .0 < 0x000001) ⊎ (0xFFFEFF < source b .0)) ⊎ (destination b .0 ≡ 0x000000))
+-- No percent, or no IP: percent 0 to 100, IP 1 to 16 or FFh.
+abbrev pub BadReading : (percent ip : ℕ) → Type 0
+BadReading percent ip = (100 < percent) ⊎ ((ip ≢ 0xFF) × ((ip < 1) ⊎ (16 < ip)))
+
+-- A frame from a line.
+abbrev pub reportRows : List Motor → (count line : ℕ) → List ℕ → List Row
+reportRows run count line b =
+    20 when (3 < line)
+    ∷ 21 when (((source b < 0x000001) ⊎ (0xFFFEFF < source b)) ⊎ (destination b ≡ 0x000000))
     ∷ 22 when ((message b ≢ 0x60) × (message b ≢ 0x0D))
-    ∷ 23 when ((message b ≡ 0x0D) × ((dataCount b < 5) ⊎ ((100 < percentIn (dataOf b)) ⊎ ((ipIn (dataOf b) ≢ 0xFF) × ((ipIn (dataOf b) < 1) ⊎ (16 < ipIn (dataOf b)))))))
-    ∷ 24 when ((found run count line (source b .0) ≡ none) × (count ≡ 256))
-    ∷ [])
+    ∷ 23 when ((message b ≡ 0x0D) × ((dataCount b < 5) ⊎ BadReading (raw b 11) (raw b 13)))
+    ∷ 24 when ((found run count line (source b) ≡ none) × (count ≡ 256))
+    ∷ []
+
+abbrev pub fileRows : List Motor → (count line : ℕ) → List ℕ → List Row
+fileRows run count line b = 19 when (¬ RegisterInRange run count) ∷ bundleRows b ++ reportRows run count line b
 
 -- ---- stored form 1
 abbrev pub readFormRows : List Motor → List ℕ → List Row

@@ -1,13 +1,12 @@
 -- Demand 2, the register: each reading is filed under line AND NodeID, and no other motor's record is touched.
 -- Assumes nothing.
-use Prim.Native.Nat.{ℕ, _+_, _-_, _*_, _<_}
+use Prim.Native.Nat.{ℕ, _+_, _*_, _<_}
 use mathlib.Core.Path.{_≡_}
 use mathlib.Core.Logic.{_≢_, _↔_, _⊎_}
 use mathlib.Core.Bool.{true, false}
 use mathlib.Core.List.{List}
 use mathlib.Core.Option.{none, some}
 use lib.ListN.{getD}
-use Rattle.frame.specs.Layout.{message, source}
 use Rattle.motors.specs.{
   Motor.{zeros},
   Register.{held, soundOf, found},
@@ -17,30 +16,27 @@ use Rattle.motors.specs.{
 use Rattle.runs.specs.Ordered.{isSome}
 use Rattle.motors.specs.Register.{occupied}
 use Rattle.motors.specs.Filing.{countAfter}
+use Rattle.promises.specs.Wire.{raw, message, source}
 use Rattle.promises.specs.RegisterInRange.{Before, InRange, Holds, at, RegisterInRange}
 use Rattle.promises.specs.Fileable.{Fileable, Strikeable}
-
--- A byte of a bundle, turned back from how it is sent.
-abbrev pub raw : List ℕ → ℕ → ℕ
-raw b place = 255 - getD b place 0
 
 -- What holds when a bundle from a line is filed in a run with its count: then `n` motors are held, in the run `after`.
 pub record Filed (run : List Motor) (count line : ℕ) (b : List ℕ) (after : List Motor) (n : ℕ) : Type 0 where
   pub a-reading-is-found-under-line-and-NodeID :
       message b ≡ 0x0D
-      → (m : Motor) × ((found after n line (source b .0) ≡ some m)
-      × Holds m line (source b .0) 1 (raw b 9 + 256 * raw b 10) (raw b 11) (raw b 13))
+      → (m : Motor) × ((found after n line (source b) ≡ some m)
+      × Holds m line (source b) 1 (raw b 9 + 256 * raw b 10) (raw b 11) (raw b 13))
   pub a-new-motor-that-names-itself-is-held :
-      message b ≡ 0x60 → found run count line (source b .0) ≡ none
-      → (m : Motor) × ((found after n line (source b .0) ≡ some m) × Holds m line (source b .0) 0 0 0 0)
+      message b ≡ 0x60 → found run count line (source b) ≡ none
+      → (m : Motor) × ((found after n line (source b) ≡ some m) × Holds m line (source b) 0 0 0 0)
   pub a-60h-changes-no-reading :
-      message b ≡ 0x60 → (m : Motor) → found run count line (source b .0) ≡ some m
-      → found after n line (source b .0) ≡ some m
+      message b ≡ 0x60 → (m : Motor) → found run count line (source b) ≡ some m
+      → found after n line (source b) ≡ some m
   pub every-other-motor-is-as-before :
-      (line′ node′ : ℕ) → (line ≡ line′ → source b .0 ≡ node′ → ⊥)
+      (line′ node′ : ℕ) → (line ≡ line′ → source b ≡ node′ → ⊥)
       → found after n line′ node′ ≡ found run count line′ node′
   pub two-wings-one-number : (line′ : ℕ) → line ≢ line′
-      → found after n line′ (source b .0) ≡ found run count line′ (source b .0)
+      → found after n line′ (source b) ≡ found run count line′ (source b)
   pub no-motor-held-is-lost : (line′ node′ : ℕ) → isSome (found run count line′ node′) ≡ true
       → isSome (found after n line′ node′) ≡ true
 
