@@ -1,3 +1,4 @@
+pub mod Reply
 pub mod GroupTable
 pub mod Events
 pub mod Effects

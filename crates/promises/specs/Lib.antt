@@ -7,6 +7,7 @@
 pub mod Wire
 pub mod BoardParts
 pub mod Numbers
+pub mod Reply
 pub mod RegisterInRange
 pub mod Rows
 pub mod Fileable

@@ -1,0 +1,29 @@
+-- A reply by its bytes (document 01, under the message table): a frame of the node to the asker, then zeros.
+-- Assumes nothing.
+use Prim.Native.Nat.{ℕ, _+_, _-_, _<_}
+use mathlib.Core.Path.{_≡_}
+use mathlib.Core.List.{List}
+use lib.ListN.{length, take, drop, replicate}
+use Rattle.frame.specs.Reading.{readingOf}
+use Rattle.board.specs.declared.whole.Node.{Node}
+use Rattle.node.specs.declared.turn.Reply.{Reply}
+use Rattle.promises.specs.Numbers.{readNumber}
+use Rattle.promises.specs.Wire.{raw, message, sender, receiver, source, destination, dataOf}
+
+-- The bytes that go out.
+abbrev pub sent : Reply → List ℕ
+sent r = take (r .count) (r .bytes)
+
+-- The reply of a node to a bundle, with this MSG and this DATA.
+pub record IsReply (n : Node) (b : List ℕ) (msg : ℕ) (content : List ℕ) (r : Reply) : Type 0 where
+  pub length-told : r .count ≡ 11 + length content
+  pub is-a-frame : readNumber (readingOf (sent r)) ≡ 0
+  pub says-its-message : message (sent r) ≡ msg
+  pub without-the-ACK-bit : raw (sent r) 1 < 128
+  pub from-the-nodes-type : sender (sent r) ≡ n .settings .kind
+  pub to-the-askers-type : receiver (sent r) ≡ sender b
+  pub from-the-node : source (sent r) ≡ n .settings .id .0
+  pub to-the-asker : destination (sent r) ≡ source b
+  pub its-DATA : dataOf (sent r) ≡ content
+  pub thirty-one-bytes : length (r .bytes) ≡ 31
+  pub zeros-behind : drop (r .count) (r .bytes) ≡ replicate (31 - r .count) 0
