@@ -57,8 +57,8 @@ use Rattle.promises.proofs.RegisterInRange.{sound-exactly-when as row-1
 use Rattle.promises.proofs.Stored.{of-its-length, behind, buffer-length}
 use Rattle.promises.proofs.GroupTable.{group-table}
 use Rattle.promises.proofs.Events.{events}
+use Rattle.promises.proofs.Codes.{codes}
 use Rattle.promises.proofs.Effects.{effects}
-use Rattle.promises.proofs.OneIp.{one-ip}
 use Rattle.promises.proofs.Answers.{answers}
 use Rattle.promises.proofs.Held.{in-range}
 use Rattle.promises.proofs.Readings.{read-from-the-bytes, named}
@@ -118,9 +118,9 @@ board =
           };
       group-table = group-table;
       events = events;
+      which-code-refuses-a-message = codes;
       what-a-message-does = effects;
-      one-IP = one-ip;
-      what-a-message-is-answered = answers;
+      what-a-GET-is-answered = answers;
     }
 
 positions : Positions

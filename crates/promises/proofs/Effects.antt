@@ -1,161 +1,305 @@
 -- What an accepted message does to the board, row by row of the message table.
 -- Assumes nothing.
-use Prim.Native.Nat.{ℕ, _≤_, _<_}
+use Prim.Native.Nat.{ℕ, zero, suc, _+_, _-_, _≤_, _<_}
 use native.Mathlib.Omega.{arith}
 use mathlib.Core.Path.{_≡_, refl, _∙_, sym, ap, subst}
-use mathlib.Core.Logic.{_⊎_, inl, inr}
-use mathlib.Core.Bool.{true, false}
-use mathlib.Core.List.{List}
-use borrow.Author.Tests.{le-leb, le-ltb, eq-eqb, ne-eqb}
-use lib.ListN.{length}
-use Rattle.meaning.specs.Choice.{either}
-use Rattle.meaning.specs.Membership.{isIn}
-use Rattle.frame.specs.Layout.{message, source, headerOf, dataOf}
+use mathlib.Core.Logic.{_≢_, inl, inr}
+use mathlib.Core.Bool.{true, false, false≢true}
+use mathlib.Core.List.{List, [], _∷_, _++_}
+use borrow.Author.Tests.{le-leb, lt-leb, le-ltb, lt-ltb, ltb-true, ltb-false, eq-eqb, ne-eqb}
+use lib.Dec.{ltb}
+use lib.ListN.{length, getD, length-set, length-append, List·getD-append}
+use lib.Seq.{getD-set-same, getD-set-other, getD-append-seam}
+use Rattle.meaning.specs.Cases.{by-test}
+use Rattle.frame.specs.Layout.{message, source, dataOf}
+use Rattle.frame.specs.Words.{wordAt}
 use Rattle.travel.specs.Units.{percent, ip}
-use Rattle.travel.specs.declared.IpIndex.{IpIndex}
+use Rattle.travel.specs.Position.{pulseOfPercent}
+use Rattle.travel.specs.Share.{share-to-n}
 use Rattle.travel.specs.declared.Pulse.{Pulse}
 use Rattle.board.specs.Drive.{halted, haltedFrom, movedTo}
-use Rattle.board.specs.Favourites.{isNumber, isSet, pulseOf}
-use Rattle.board.specs.Lock.{admits, locked}
+use Rattle.board.specs.Favourites.{isNumber, withIp, sharedIp, sharedTo, sharedOut, pulseOf}
+use Rattle.board.specs.Groups.{Groups}
+use Rattle.board.specs.Lock.{locked}
 use Rattle.board.specs.Node.{withDrive, withFavourites, withLock}
 use Rattle.board.specs.declared.drive.Drive.{Drive}
 use Rattle.board.specs.declared.drive.Motion.{Motion}
 use Rattle.board.specs.declared.drive.Motion.the-variants.{Still, Running}
+use Rattle.board.specs.declared.favourites.Favourites.{Favourites}
 use Rattle.board.specs.declared.favourites.Ip.{Ip}
-use Rattle.board.specs.declared.favourites.Ip.the-variants.{At}
+use Rattle.board.specs.declared.favourites.Ip.the-variants.{Unset, At}
+use Rattle.board.specs.declared.favourites.Slot.{Slot}
+use Rattle.board.specs.declared.groups.Change.the-variants.{Keep}
 use Rattle.board.specs.declared.whole.Node.{Node}
-use Rattle.board.specs.Groups.{Groups}
-use Rattle.board.specs.declared.groups.Change.{Change}
-use Rattle.board.specs.declared.groups.Change.the-variants.{Keep, Put}
-use Rattle.frame.specs.Words.{wordAt}
 use Rattle.messages.specs.Fields.{byteAt}
 use Rattle.messages.specs.Outcome.{acts}
-use Rattle.messages.specs.Motor.{aimOf, isAim, targetOf}
-use Rattle.messages.specs.Ips.{shareOrder, orderIn, isOrder, findsItsIp, ordered}
-use Rattle.messages.specs.Locking.{lockFunctions, lockedBy}
-use Rattle.messages.specs.Table.{outcomeOf}
+use Rattle.messages.specs.Motor.{aimOf, targetOf}
+use Rattle.messages.specs.Ips.{orderIn, ordered}
+use Rattle.messages.specs.Locking.{lockedBy}
 use Rattle.messages.specs.declared.favourites.Order.{Order}
-use Rattle.messages.specs.declared.favourites.Order.the-variants.{Delete, Here, AtPercent, Share}
-use Rattle.messages.proofs.Messages.{at-02, at-03, at-15, at-16, at-51}
-use Rattle.messages.proofs.Rows.{stop-at, move-at, set-ip-at, set-lock-at, set-group-at}
+use Rattle.messages.specs.declared.favourites.Order.the-variants.{Share}
 use Rattle.messages.proofs.Orders.{sharing, deleting, here, percent-at}
 use Rattle.node.specs.Frames.{turnOf}
-use Rattle.node.specs.declared.turn.Turn.{Turn}
-use Rattle.node.proofs.Laws.{meant-is-carried-out}
-use Rattle.promises.specs.Demand2.Effects.{Arrives, AimedAt, down, up, to-IP, to-percent, Effects}
+use Rattle.promises.specs.BoardParts.{slot, drive, ipOf}
+use Rattle.promises.specs.Demand2.Codes.{Accepted, IsAMove, SetsAnIp, stopRows, moveRows, setIpRows, lockRows}
+use Rattle.promises.specs.Demand2.Turns.{CarriedOut}
+use Rattle.promises.specs.Demand2.Effects.{Arrives, AimedAt, down, up, to-IP, to-percent, OneIp, SharedOut, Effects}
+use Rattle.promises.proofs.Turns.{carried-out}
+use Rattle.promises.proofs.Codes.{
+  ip-at-is,
+  is-number,
+  a-move-exactly-when,
+  an-order-exactly-when,
+  not-false-is-true,
+  behind,
+  stop-by,
+  move-by,
+  set-ip-by,
+  lock-by,
+  set-group-by,
+}
 
-halted-is-still : (motion : Motion) (d : Drive) → d .motion ≡ motion → haltedFrom motion d .motion ≡ Still
-halted-is-still Still d e = e
-halted-is-still (Running target) d e = refl
+-- ---- 03h
+position-to-15 : (function position : ℕ) → IsAMove function position → function ≡ 2 → position ≤ 15
+position-to-15 function position (inl f) two = absurd (omega (arith, f, two))
+position-to-15 function position (inr (inl f)) two = absurd (omega (arith, f, two))
+position-to-15 function position (inr (inr (inl (f, h)))) two = h
+position-to-15 function position (inr (inr (inr (f, h)))) two = absurd (omega (arith, f, two))
 
-module _ (n : Node) (d : List ℕ) where
-  is-aim : (target : Pulse) → AimedAt n d target → isAim (aimOf (byteAt d 0) (wordAt d 1)) ≡ true
-  is-aim target (down f) = rw f
-  is-aim target (up f) = rw f
-  is-aim target (to-IP f h i) = rw (f, le-leb (wordAt d 1) 15 h)
-  is-aim target (to-percent f h) = rw (f, le-leb (wordAt d 1) 100 h)
+position-to-100 : (function position : ℕ) → IsAMove function position → function ≡ 4 → position ≤ 100
+position-to-100 function position (inl f) four = absurd (omega (arith, f, four))
+position-to-100 function position (inr (inl f)) four = absurd (omega (arith, f, four))
+position-to-100 function position (inr (inr (inl (f, h)))) four = absurd (omega (arith, f, four))
+position-to-100 function position (inr (inr (inr (f, h)))) four = h
 
-  aims-at : (target : Pulse) → AimedAt n d target → At target ≡ targetOf n (aimOf (byteAt d 0) (wordAt d 1))
-  aims-at target (down f) = rw f
-  aims-at target (up f) = rw f
-  aims-at target (to-IP f h i) = rw (f, le-leb (wordAt d 1) 15 h) (sym i)
-  aims-at target (to-percent f h) = rw (f, le-leb (wordAt d 1) 100 h)
+aims-at : (n : Node) (d : List ℕ) → IsAMove (byteAt d 0) (wordAt d 1) → (target : Pulse) → AimedAt n d target
+    → targetOf n (aimOf (byteAt d 0) (wordAt d 1)) ≡ At target
+aims-at n d move target (down f) = rw f
+aims-at n d move target (up f) = rw f
+aims-at n d move target (to-IP f i) =
+    let most = position-to-15 (byteAt d 0) (wordAt d 1) move f in
+    rw (f, le-leb (wordAt d 1) 15 most) (ip-at-is (n .favourites) (wordAt d 1 + 1) (omega arith) (omega arith) ∙ i)
+aims-at n d move target (to-percent f) = rw (f, le-leb (wordAt d 1) 100 (position-to-100 (byteAt d 0) (wordAt d 1) move f))
 
-admitted : (n : Node) (priority : ℕ) → (n .lock .locked ≡ true → n .lock .priority ≤ priority) → admits (n .lock) priority ≡ true
-admitted n priority h = either (λ t. t ≡ true) (n .lock .locked) (λ e. le-leb (n .lock .priority) priority (h e)) (λ e. refl)
+-- An accepted MOVETO is a move, of a motor that is not blocked.
+accepted-move : (n : Node) (d : List ℕ) → Accepted (moveRows n d) → IsAMove (byteAt d 0) (wordAt d 1) × (n .drive .blocked ≡ false)
+accepted-move n d none =
+    let aimed = behind (λ e. omega arith) (behind (λ e. omega arith) none .1) in
+    let clear = behind (λ e. omega arith) (behind (λ e. omega arith) (aimed .1) .1) .0 in
+    let decided = a-move-exactly-when (byteAt d 0) (wordAt d 1) in (
+      decided .1 (not-false-is-true _ (λ e. aimed .0 (λ move. false≢true (sym e ∙ decided .0 move)))),
+      by-test (n .drive .blocked) (λ t. absurd (clear t)) (λ t. t),
+    )
 
+-- ---- 15h
+accepted-order : (n : Node) (d : List ℕ) → Accepted (setIpRows n d) → SetsAnIp (byteAt d 0) (byteAt d 1) (wordAt d 2)
+accepted-order n d none =
+    let ordered = behind (λ e. omega arith) (behind (λ e. omega arith) none .1) .0 in
+    let decided = an-order-exactly-when (byteAt d 0) (byteAt d 1) (wordAt d 2) in
+    decided .1 (not-false-is-true _ (λ e. ordered (λ sets. false≢true (sym e ∙ decided .0 sets))))
+
+-- Functions 0, 1 and 3 name one of the sixteen, and 3 a percent; 4 has a count.
+names-an-ip : (function index value : ℕ) → SetsAnIp function index value → function ≢ 4 → (1 ≤ index) × (index ≤ 16)
+names-an-ip function index value (inl (four, k)) other = absurd (other four)
+names-an-ip function index value (inr (i, f)) other = i
+
+names-a-percent : (function index value : ℕ) → SetsAnIp function index value → function ≡ 3 → value ≤ 100
+names-a-percent function index value (inl (four, k)) three = absurd (omega (arith, four, three))
+names-a-percent function index value (inr (i, inl none)) three = absurd (omega (arith, none, three))
+names-a-percent function index value (inr (i, inr (inl one))) three = absurd (omega (arith, one, three))
+names-a-percent function index value (inr (i, inr (inr (f, h)))) three = h
+
+names-a-count : (function index value : ℕ) → SetsAnIp function index value → function ≡ 4 → (1 ≤ value) × (value ≤ 16)
+names-a-count function index value (inl (four, k)) f = k
+names-a-count function index value (inr (i, inl none)) f = absurd (omega (arith, none, f))
+names-a-count function index value (inr (i, inr (inl one))) f = absurd (omega (arith, one, f))
+names-a-count function index value (inr (i, inr (inr (three, h)))) f = absurd (omega (arith, three, f))
+
+-- One IP set or unset: it is as set, and all others as before.
+one-ip : (n : Node) → length (n .favourites .slots) ≡ 16 → (i : ℕ) (x : Ip) → 1 ≤ i → i ≤ 16
+    → OneIp n (withFavourites n (withIp (n .favourites) (ip i) x)) i x
+one-ip n sixteen i x l u =
+    rw (le-leb 1 i l, le-leb i 16 u)
+    (record {
+      IPs-alone = record { same-settings = refl; same-motor = refl; same-lock = refl; sixteen-again = length-set slots (i - 1) (slot x) ∙ sixteen };
+      the-IP-named = ap (λ (s : Slot). s .ip) (getD-set-same slots (i - 1) (slot x) (slot Unset) (omega (arith, sixteen, l, u)));
+      every-other-IP = λ other first last differs.
+          ap (λ (s : Slot). s .ip)
+          (getD-set-other slots (i - 1) (other - 1) (slot x) (slot Unset) (λ e. differs (omega (arith, e, l, first))));
+    })
+  where
+    slots : List Slot
+    slots = n .favourites .slots
+
+-- The slots of IPs that share the travel, one by one.
+shared-length : (count : ℕ) (travel : Pulse) (k : ℕ) → length (sharedTo count travel k) ≡ k
+unfolding sharedTo
+shared-length count travel zero = refl
+shared-length count travel (suc k) =
+    let e = shared-length count travel k in
+    length-append (sharedTo count travel k) _ ∙ omega arith
+
+shared-slot : (count : ℕ) (travel : Pulse) (k i : ℕ) → i < k
+    → getD (sharedTo count travel k) i (slot Unset) ≡ slot (sharedIp count travel (ip (suc i)))
+unfolding sharedTo
+shared-slot count travel zero i h = absurd (omega arith)
+shared-slot count travel (suc k) i h =
+    by-test (ltb i k)
+    (λ t.
+    let within = ltb-true i k t in
+    List·getD-append (sharedTo count travel k) (slot (sharedIp count travel (ip (suc k))) ∷ []) (slot Unset) i
+    (omega (arith, shared-length count travel k, within))
+    ∙ shared-slot count travel k i within)
+    (λ t.
+    let last : i ≡ k = omega (arith, h, ltb-false i k t) in
+    rw last
+    (ap (λ (at : ℕ). getD (sharedTo count travel k ++ slot (sharedIp count travel (ip (suc k))) ∷ []) at (slot Unset)) (sym (shared-length count travel k))
+    ∙ getD-append-seam (sharedTo count travel k) (slot (sharedIp count travel (ip (suc k)))) [] (slot Unset)))
+
+shared-ip : (count : ℕ) (travel : Pulse) (i : ℕ) → 1 ≤ i → i ≤ 16 → ipOf (sharedOut count travel) i ≡ sharedIp count travel (ip i)
+shared-ip count travel i l u =
+    let same : suc (i - 1) ≡ i = omega (arith, l) in
+    ap (λ (s : Slot). s .ip) (shared-slot count travel 16 (i - 1) (omega (arith, l, u)))
+    ∙ ap (λ (k : ℕ). sharedIp count travel (ip k)) same
+
+shared-out : (n : Node) (count : ℕ) → count ≤ 16 → SharedOut n (withFavourites n (sharedOut count (n .settings .travel))) count
+shared-out n count few =
+    record {
+      IPs-alone = record { same-settings = refl; same-motor = refl; same-lock = refl; sixteen-again = shared-length count travel 16 };
+      to-the-count = λ i l u. shared-ip count travel i l (omega (arith, u, few)) ∙ rw (le-leb i count u, share-to-n (ip i) count u);
+      the-rest = λ i over u. shared-ip count travel i (omega (arith, over)) u ∙ rw (lt-leb i count over);
+    }
+  where
+    travel : Pulse
+    travel = n .settings .travel
+
+-- ---- each message
 module _ (n : Node) (g : Groups) (b : List ℕ) (a : Arrives n g b) where
   abbrev content : List ℕ
   content = dataOf b
 
-  -- A message that acts leaves its node and its change, whether or not it is answered.
-  acted : (after : Node) (change : Change) → outcomeOf n g (source b) (message b) content ≡ acts after change
-      → (turnOf n g b .node ≡ after) × (turnOf n g b .change ≡ change)
-  acted after change o =
-      rw (meant-is-carried-out n g b (a .is-sound) (a .is-frame) (a .is-meant), o)
-      (either (λ (t : Turn). (t .node ≡ after) × (t .change ≡ change)) (headerOf b .ack) (λ e. (refl, refl)) (λ e. (refl, refl)))
+  abbrev Carried : Node → Type 0
+  Carried after = CarriedOut n b (turnOf n g b) after Keep
 
-  stopped : message b ≡ 0x02 → 1 ≤ length content → n .lock .locked ≡ false → turnOf n g b .node ≡ withDrive n (halted (n .drive))
-  stopped m h free =
-      acted (withDrive n (halted (n .drive))) Keep (at-02 n g (source b) (message b) content m ∙ stop-at n content 2 (h, (free, tt))) .0
+  -- 02h
+  stopped-so : message b ≡ 0x02 → Accepted (stopRows n content) → Carried (withDrive n (halted (n .drive)))
+  stopped-so m none = carried-out n g b a (withDrive n (halted (n .drive))) Keep (stop-by n g b a m .accepted none)
 
-  moved : message b ≡ 0x03 → 4 ≤ length content → n .lock .locked ≡ false → n .drive .blocked ≡ false → (target : Pulse) → AimedAt n content target
-      → turnOf n g b .node ≡ withDrive n (movedTo (n .drive) target)
-  moved m h free clear target aim =
-      let at = sym (aims-at n content target aim) in
-      acted (withDrive n (movedTo (n .drive) target)) Keep
-      (at-03 n g (source b) (message b) content m
-      ∙ move-at n content 5 (h, (is-aim n content target aim, (free, (clear, (ap isSet at, tt)))))
-      ∙ ap (λ (x : Ip). acts (withDrive n (movedTo (n .drive) (pulseOf x))) Keep) at) .0
+  stopped-from : (motion : Motion) → n .drive .motion ≡ motion → message b ≡ 0x02 → Accepted (stopRows n content)
+      → Carried (withDrive n (haltedFrom motion (n .drive)))
+  stopped-from motion e m none = subst (λ (x : Motion). Carried (withDrive n (haltedFrom x (n .drive)))) e (stopped-so m none)
 
-  -- 16h: the function and what it makes of the lock.
-  lock-set : (function : ℕ) → message b ≡ 0x16 → 2 ≤ length content → byteAt content 0 ≡ function → isIn function lockFunctions ≡ true
-      → (1 < function) ⊎ (admits (n .lock) (byteAt content 1) ≡ true)
-      → turnOf n g b .node ≡ lockedBy n (source b) function (byteAt content 1)
-  lock-set function m h f listed admitted =
-      acted (lockedBy n (source b) function (byteAt content 1)) Keep
-      (at-16 n g (source b) (message b) content m
-      ∙ set-lock-at n content 3 (source b) (
-        h,
+  -- 03h
+  moved-so : message b ≡ 0x03 → Accepted (moveRows n content) → (target : Pulse) → AimedAt n content target
+      → Carried (withDrive n (movedTo (n .drive) target))
+  moved-so m none target aim =
+      carried-out n g b a (withDrive n (movedTo (n .drive) target)) Keep
+      (move-by n g b a m .accepted none
+      ∙ ap (λ (x : Ip). acts (withDrive n (movedTo (n .drive) (pulseOf x))) Keep) (aims-at n content (accepted-move n content none .0) target aim))
+
+  moved-as : message b ≡ 0x03 → Accepted (moveRows n content) → (target : Pulse) → AimedAt n content target
+      → {d : Drive} → movedTo (n .drive) target ≡ d → Carried (withDrive n d)
+  moved-as m none target aim e = subst (λ (x : Drive). Carried (withDrive n x)) e (moved-so m none target aim)
+
+  -- 15h
+  ordered-so : message b ≡ 0x15 → Accepted (setIpRows n content) → (order : Order) → orderIn content ≡ order
+      → Carried (withFavourites n (ordered n order))
+  ordered-so m none order e =
+      carried-out n g b a (withFavourites n (ordered n order)) Keep
+      (set-ip-by n g b a m .accepted none ∙ ap (λ (x : Order). acts (withFavourites n (ordered n x)) Keep) e)
+
+  -- The IP that functions 0, 1 and 3 name.
+  abbrev index : ℕ
+  index = byteAt content 1
+
+  one-so : message b ≡ 0x15 → Accepted (setIpRows n content) → byteAt content 0 ≢ 4 → (x : Ip)
+      → ((i : isNumber (ip index) ≡ true) → ordered n (orderIn content) ≡ withIp (n .favourites) (ip index) x)
+      → (after : Node) × (Carried after × OneIp n after index x)
+  one-so m none other x made =
+      let i = names-an-ip (byteAt content 0) index (wordAt content 2) (accepted-order n content none) other in
+      let after = withFavourites n (withIp (n .favourites) (ip index) x) in (
+        after,
         (
-          ap (λ (k : ℕ). isIn k lockFunctions) f ∙ listed,
-          (subst (λ (k : ℕ). (1 < k) ⊎ (admits (n .lock) (byteAt content 1) ≡ true)) (sym f) admitted, tt),
+          subst (λ (f : Favourites). Carried (withFavourites n f)) (made (is-number index .0 i)) (ordered-so m none (orderIn content) refl),
+          one-ip n (a .has-sixteen-IPs) index x (i .0) (i .1),
         ),
       )
-      ∙ ap (λ (k : ℕ). acts (lockedBy n (source b) k (byteAt content 1)) Keep) f) .0
 
-  locking : message b ≡ 0x16 → 2 ≤ length content → byteAt content 0 ≡ 1 → (n .lock .locked ≡ true → n .lock .priority ≤ byteAt content 1)
-      → turnOf n g b .node ≡ withLock (withDrive n (halted (n .drive))) (locked (n .lock) (source b) (byteAt content 1))
-  locking m h f p = lock-set 1 m h f refl (inr (admitted n (byteAt content 1) p))
+  shared-so : message b ≡ 0x15 → Accepted (setIpRows n content) → byteAt content 0 ≡ 4
+      → (after : Node) × (Carried after × SharedOut n after (wordAt content 2))
+  shared-so m none four =
+      let (least, most) = names-a-count (byteAt content 0) index (wordAt content 2) (accepted-order n content none) four in
+      let order : orderIn content ≡ Share (wordAt content 2) =
+      sharing (byteAt content 0) (ip index) (wordAt content 2) four ∙ rw (le-ltb (wordAt content 2) 1 least, le-ltb 16 (wordAt content 2) most) in (
+        withFavourites n (sharedOut (wordAt content 2) (n .settings .travel)),
+        (ordered-so m none (Share (wordAt content 2)) order, shared-out n (wordAt content 2) most),
+      )
 
-  -- 15h: the order that its fields give.
-  abbrev index : IpIndex
-  index = ip (byteAt content 1)
+  -- 16h
+  locked-so : (function : ℕ) → message b ≡ 0x16 → Accepted (lockRows n content) → byteAt content 0 ≡ function
+      → Carried (lockedBy n (source b) function (byteAt content 1))
+  locked-so function m none f =
+      carried-out n g b a (lockedBy n (source b) function (byteAt content 1)) Keep
+      (lock-by n g b a m .accepted none ∙ ap (λ (k : ℕ). acts (lockedBy n (source b) k (byteAt content 1)) Keep) f)
 
-  numbered : 1 ≤ byteAt content 1 → byteAt content 1 ≤ 16 → isNumber index ≡ true
-  numbered l u = rw (le-leb 1 (byteAt content 1) l, le-leb (byteAt content 1) 16 u)
+  locked-from : (motion : Motion) → n .drive .motion ≡ motion → message b ≡ 0x16 → Accepted (lockRows n content) → byteAt content 0 ≡ 1
+      → Carried (withLock (withDrive n (haltedFrom motion (n .drive))) (locked (n .lock) (source b) (byteAt content 1)))
+  locked-from motion e m none f =
+      subst (λ (x : Motion). Carried (withLock (withDrive n (haltedFrom x (n .drive))) (locked (n .lock) (source b) (byteAt content 1)))) e
+      (locked-so 1 m none f)
 
-  carried : (order : Order) → message b ≡ 0x15 → 4 ≤ length content → orderIn content ≡ order → isOrder order ≡ true
-      → findsItsIp (n .favourites) order ≡ true → turnOf n g b .node ≡ withFavourites n (ordered n order)
-  carried order m h o is finds =
-      acted (withFavourites n (ordered n order)) Keep
-      (at-15 n g (source b) (message b) content m
-      ∙ set-ip-at n content 3 (h, (ap isOrder o ∙ is, (ap (findsItsIp (n .favourites)) o ∙ finds, tt)))
-      ∙ ap (λ (x : Order). acts (withFavourites n (ordered n x)) Keep) o) .0
+  -- Where a move goes, from which side, and that a motor that is not blocked stays so.
+  abbrev at : ℕ
+  at = n .drive .position .0
 
-  shared : (value : ℕ) → 1 ≤ value → value ≤ 16 → shareOrder value ≡ Share value
-  shared value l u = rw (le-ltb value 1 l, le-ltb 16 value u)
+  clear : Accepted (moveRows n content) → n .drive .blocked ≡ false
+  clear none = accepted-move n content none .1
 
-  pub effects : Effects n g b
+  down-so : Accepted (moveRows n content) → (target : Pulse) → at < target .0
+      → movedTo (n .drive) target ≡ drive (n .drive .position) (Running target) 0 1 1 false
+  down-so none target h = rw (ne-eqb at (target .0) (λ e. omega arith), lt-ltb at (target .0) h, clear none)
+
+  up-so : Accepted (moveRows n content) → (target : Pulse) → target .0 < at
+      → movedTo (n .drive) target ≡ drive (n .drive .position) (Running target) 1 1 1 false
+  up-so none target h = rw (ne-eqb at (target .0) (λ e. omega arith), le-ltb at (target .0) (omega arith), clear none)
+
+  there-so : Accepted (moveRows n content) → (target : Pulse) → at ≡ target .0
+      → movedTo (n .drive) target ≡ drive (n .drive .position) Still (n .drive .direction) 0 0 false
+  there-so none target h = rw (eq-eqb at (target .0) h, clear none)
+
+  -- The order that each function of 15h gives.
+  module _ (i : isNumber (ip index) ≡ true) where
+    deletes : byteAt content 0 ≡ 0 → ordered n (orderIn content) ≡ withIp (n .favourites) (ip index) Unset
+    deletes f = ap (ordered n) (deleting (byteAt content 0) (ip index) (wordAt content 2) i f)
+
+    sets-here : byteAt content 0 ≡ 1 → ordered n (orderIn content) ≡ withIp (n .favourites) (ip index) (At (n .drive .position))
+    sets-here f = ap (ordered n) (here (byteAt content 0) (ip index) (wordAt content 2) i f)
+
+    abbrev atPercent : Ip
+    atPercent = At (pulseOfPercent (percent (wordAt content 2)) (n .settings .travel))
+
+    sets-at-a-percent : Accepted (setIpRows n content) → byteAt content 0 ≡ 3
+        → ordered n (orderIn content) ≡ withIp (n .favourites) (ip index) atPercent
+    sets-at-a-percent none f =
+        let few = names-a-percent (byteAt content 0) index (wordAt content 2) (accepted-order n content none) f in
+        ap (ordered n) (percent-at (byteAt content 0) (ip index) (wordAt content 2) i f few)
+
+  pub effects : Effects n b (turnOf n g b)
   effects =
       record {
-        a-running-motor-is-stopped = λ m h free target runs. stopped m h free ∙ ap
-            (λ (motion : Motion). withDrive n (haltedFrom motion (n .drive))) runs;
-        a-motor-stopped-does-not-run =
-            λ m h free. ap (λ (x : Node). x .drive .motion) (stopped m h free) ∙ halted-is-still (n .drive .motion) (n .drive) refl;
-        a-motor-sent-elsewhere-runs-there =
-            λ m h free clear target aim away. moved m h free clear target aim ∙ rw (ne-eqb (n .drive .position .0) (target .0) away, clear);
-        a-motor-that-is-there-stands =
-            λ m h free clear target aim there. moved m h free clear target aim ∙ rw (eq-eqb (n .drive .position .0) (target .0) there, clear);
-        a-group-is-stored =
-            λ m h i.
-            acted n (Put (byteAt content 0) (byteAt content 1) (byteAt content 2) (byteAt content 3))
-            (at-51 n g (source b) (message b) content m ∙ set-group-at n content 2 (h, (i, tt))) .1;
-        a-lock-is-held-by-its-sender = λ m h f p. ap (λ (x : Node). x .lock) (locking m h f p);
-        a-locked-motor-does-not-run =
-            λ m h f p. ap (λ (x : Node). x .drive .motion) (locking m h f p) ∙ halted-is-still (n .drive .motion) (n .drive) refl;
-        an-unlocked-board-has-no-holder = λ m h f p. lock-set 0 m h f refl (inr (admitted n (byteAt content 1) p));
-        a-lock-is-saved = λ m h f. lock-set 3 m h f refl (inl (omega arith));
-        a-lock-is-saved-no-more = λ m h f. lock-set 4 m h f refl (inl (omega arith));
-        an-IP-is-deleted =
-            λ m h f l u p e. carried (Delete index) m h (deleting (byteAt content 0) index (wordAt content 2) (numbered l u) f) refl (ap isSet e);
-        an-IP-is-set-here = λ m h f l u. carried (Here index) m h (here (byteAt content 0) index (wordAt content 2) (numbered l u) f) refl refl;
-        an-IP-is-set-at-a-percent =
-            λ m h f l u v.
-            carried (AtPercent index (percent (wordAt content 2))) m h
-            (percent-at (byteAt content 0) index (wordAt content 2) (numbered l u) f v) refl refl;
-        IPs-are-shared-out =
-            λ m h f l u.
-            carried (Share (wordAt content 2)) m h
-            (sharing (byteAt content 0) index (wordAt content 2) f ∙ shared (wordAt content 2) l u) refl refl;
+        a-running-motor-is-stopped = λ m none target runs. stopped-from (Running target) runs m none;
+        a-STOP-of-a-motor-at-rest-changes-nothing = λ m none rests. stopped-from Still rests m none;
+        a-motor-sent-down-runs-down = λ m none target aim h. moved-as m none target aim (down-so none target h);
+        a-motor-sent-up-runs-up = λ m none target aim h. moved-as m none target aim (up-so none target h);
+        a-motor-that-is-there-stands = λ m none target aim h. moved-as m none target aim (there-so none target h);
+        an-IP-is-deleted = λ m none f. one-so m none (λ e. omega arith) _ (λ i. deletes i f);
+        an-IP-is-set-here = λ m none f. one-so m none (λ e. omega arith) _ (λ i. sets-here i f);
+        an-IP-is-set-at-a-percent = λ m none f. one-so m none (λ e. omega arith) _ (λ i. sets-at-a-percent i none f);
+        IPs-are-shared-out = shared-so;
+        a-lock-stops-a-running-motor-and-is-held-by-its-sender = λ m none f target runs. locked-from (Running target) runs m none f;
+        a-lock-of-a-motor-at-rest-is-held-by-its-sender = λ m none f rests. locked-from Still rests m none f;
+        an-unlocked-board-has-no-holder = locked-so 0;
+        a-lock-is-saved = locked-so 3;
+        a-lock-is-saved-no-more = locked-so 4;
+        a-group-is-stored = λ m none. carried-out n g b a n _ (set-group-by n g b a m .accepted none);
       }

@@ -1,12 +1,13 @@
-pub mod Reply
 pub mod GroupTable
 pub mod Events
-pub mod Effects
-pub mod OneIp
-pub mod Answers
 pub mod Held
 pub mod RegisterInRange
 pub mod First
+pub mod Reply
+pub mod Turns
+pub mod Codes
+pub mod Effects
+pub mod Answers
 pub mod ReportBytes
 pub mod Rows
 pub mod Fileable

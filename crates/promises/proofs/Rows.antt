@@ -66,7 +66,6 @@ use Rattle.form.specs.Writing.{writeFormTable, writtenOf}
 use Rattle.form.specs.declared.writing.Written.{Written}
 use Rattle.promises.specs.Numbers.{readNumber, writeNumber, lineNumber, eventNumber, turnNumber, registerNumber, formNumber, noFrame}
 use Rattle.promises.specs.Rows.{
-  Row,
   _when_,
   First,
   FirstOf,

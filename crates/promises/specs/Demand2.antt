@@ -6,6 +6,8 @@
 -- Assumes nothing.
 pub mod Frames
 pub mod Events
+pub mod Turns
+pub mod Codes
 pub mod Effects
 pub mod Answers
 pub mod Board
@@ -13,7 +15,7 @@ pub mod Positions
 pub mod Register
 pub mod StoredForm
 
-pub record Demand2 : Type 0 where
+pub record Demand2 : Type 1 where
   pub frames : Frames.Frames
   pub board : Board.Board
   pub positions : Positions.Positions

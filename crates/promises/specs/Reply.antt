@@ -14,6 +14,10 @@ use Rattle.promises.specs.Wire.{raw, message, sender, receiver, source, 
 abbrev pub sent : Reply → List ℕ
 sent r = take (r .count) (r .bytes)
 
+-- No reply: 31 zeros.
+abbrev pub nothingSaid : Reply
+nothingSaid = record { count = 0; bytes = replicate 31 0 }
+
 -- The reply of a node to a bundle, with this MSG and this DATA.
 pub record IsReply (n : Node) (b : List ℕ) (msg : ℕ) (content : List ℕ) (r : Reply) : Type 0 where
   pub length-told : r .count ≡ 11 + length content

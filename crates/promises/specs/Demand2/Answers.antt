@@ -1,91 +1,58 @@
--- Demand 2, the board: what a message is answered.
+-- Demand 2, the board: what a GET that no code refuses is answered.
 -- Assumes nothing.
-use Prim.Native.Nat.{ℕ, _/_, _%_, _≤_}
+use Prim.Native.Nat.{ℕ, _/_, _%_}
 use mathlib.Core.Path.{_≡_}
-use mathlib.Core.Bool.{true, false}
-use mathlib.Core.List.{List, [], _∷_, _++_}
-use lib.ListN.{length, getD}
-use Rattle.frame.specs.{
-  Address.{bytesOf},
-  Layout.{message, source, headerOf, dataOf},
-}
-use Rattle.travel.specs.{
-  Units.{ip},
-  Position.{percentOfPulse},
-  declared.Pulse.{Pulse},
-}
+use mathlib.Core.Bool.{Bool, true, false}
+use mathlib.Core.List.{List, [], _∷_}
+use lib.ListN.{getD}
+use Rattle.travel.specs.{Position.{percentOfPulse}, declared.Pulse.{Pulse}}
 use Rattle.board.specs.{
-  Favourites.{ipAt, reportedIp},
+  Favourites.{reportedIp},
   Node.{statusOf},
   Groups.{Groups},
-  declared.{
-    favourites.Ip.the-variants.{Unset, At},
-    whole.Node.{Node},
-    groups.Change.{Change},
-    groups.Change.the-variants.{Keep},
-  },
+  declared.{favourites.Ip.the-variants.{Unset, At}, whole.Node.{Node}},
 }
-use Rattle.messages.specs.{
-  Code.{codeOf},
-  Outcome.{acts, refuses},
-  Fields.{byteAt, bit},
-  Table.{outcomeOf},
-  declared.code.Code.{Code},
-}
-use Rattle.node.specs.{
-  Turn.{silent, replied},
-  Replies.{replyTo},
-  Frames.{turnOf},
-}
+use Rattle.node.specs.declared.turn.Turn.{Turn}
+use Rattle.promises.specs.Wire.{message, dataOf, byteAt}
+use Rattle.promises.specs.BoardParts.{ipOf}
+use Rattle.promises.specs.Demand2.Turns.{Posted}
+use Rattle.promises.specs.Demand2.Codes.{Accepted, ipRows, groupRows}
 
--- What a message is answered: a GET by its POST, which changes nothing; all else with the ACK bit alone, by 7Fh, or by
--- 6Fh with the code that refuses it.
-pub record Answers (n : Node) (g : Groups) (b : List ℕ) : Type 0 where
+-- 1 for yes, 0 for no.
+abbrev pub oneIf : Bool → ℕ
+oneIf true = 1
+oneIf false = 0
+
+-- Reserved bytes are sent as FFh.
+pub record Answers (n : Node) (g : Groups) (b : List ℕ) (t : Turn) : Type 1 where
+  -- 0Ch: pulse, percent, reserved, IP
   pub position-is-told :
       message b ≡ 0x0C
-      → turnOf n g b
-      ≡ replied n Keep
-      (replyTo (n .settings) (headerOf b) 0x0D
-      (n .drive .position .0 % 256 ∷ n .drive .position .0 / 256 ∷ percentOfPulse (n .drive .position) (n .settings .travel) .0 ∷ 0xFF
-      ∷ reportedIp (n .favourites) (n .drive .position) ∷ []))
+      → Posted n b t 0x0D
+      (n .drive .position .0 % 256 ∷ n .drive .position .0 / 256
+      ∷ percentOfPulse (n .drive .position) (n .settings .travel) .0 ∷ 0xFF
+      ∷ reportedIp (n .favourites) (n .drive .position) ∷ [])
+  -- 0Eh
   pub status-is-told :
       message b ≡ 0x0E
-      → turnOf n g b
-      ≡ replied n Keep (replyTo (n .settings) (headerOf b) 0x0F (statusOf n ∷ n .drive .direction ∷ n .drive .source ∷ n .drive .cause ∷ []))
+      → Posted n b t 0x0F (statusOf n ∷ n .drive .direction ∷ n .drive .source ∷ n .drive .cause ∷ [])
+  -- 25h: index, reserved, percent or FFh
   pub an-IP-is-told :
-      message b ≡ 0x25 → 1 ≤ length (dataOf b) → 1 ≤ byteAt (dataOf b) 0 → byteAt (dataOf b) 0 ≤ 16
-      → (p : Pulse) → ipAt (n .favourites) (ip (byteAt (dataOf b) 0)) ≡ At p
-      → turnOf n g b
-      ≡ replied n Keep
-      (replyTo (n .settings) (headerOf b) 0x35 (byteAt (dataOf b) 0 ∷ 0xFF ∷ 0xFF ∷ percentOfPulse p (n .settings .travel) .0 ∷ []))
+      message b ≡ 0x25 → Accepted (ipRows (dataOf b)) → (p : Pulse) → ipOf (n .favourites) (byteAt (dataOf b) 0) ≡ At p
+      → Posted n b t 0x35 (byteAt (dataOf b) 0 ∷ 0xFF ∷ 0xFF ∷ percentOfPulse p (n .settings .travel) .0 ∷ [])
   pub an-unset-IP-is-told-as-FFh :
-      message b ≡ 0x25 → 1 ≤ length (dataOf b) → 1 ≤ byteAt (dataOf b) 0 → byteAt (dataOf b) 0 ≤ 16
-      → ipAt (n .favourites) (ip (byteAt (dataOf b) 0)) ≡ Unset
-      → turnOf n g b
-      ≡ replied n Keep (replyTo (n .settings) (headerOf b) 0x35 (byteAt (dataOf b) 0 ∷ 0xFF ∷ 0xFF ∷ 0xFF ∷ []))
+      message b ≡ 0x25 → Accepted (ipRows (dataOf b)) → ipOf (n .favourites) (byteAt (dataOf b) 0) ≡ Unset
+      → Posted n b t 0x35 (byteAt (dataOf b) 0 ∷ 0xFF ∷ 0xFF ∷ 0xFF ∷ [])
+  -- 26h: status, holder in three bytes, priority, saved
   pub the-lock-is-told :
       message b ≡ 0x26
-      → turnOf n g b
-      ≡ replied n Keep
-      (replyTo (n .settings) (headerOf b) 0x36 (bit (n .lock .locked) ∷ (bytesOf (n .lock .holder) ++ (n .lock .priority ∷ bit (n .lock .saved) ∷ []))))
-  pub the-address-is-told : message b ≡ 0x40
-      → turnOf n g b ≡ replied n Keep (replyTo (n .settings) (headerOf b) 0x60 [])
+      → Posted n b t 0x36
+      (oneIf (n .lock .locked) ∷ n .lock .holder .0 % 256 ∷ n .lock .holder .0 / 256 % 256 ∷ n .lock .holder .0 / 65536 % 256
+      ∷ n .lock .priority ∷ oneIf (n .lock .saved) ∷ [])
+  -- 40h: the address is the reply's own SOURCE
+  pub the-address-is-told : message b ≡ 0x40 → Posted n b t 0x60 []
+  -- 41h: index, group in three bytes
   pub a-group-is-told :
-      message b ≡ 0x41 → 1 ≤ length (dataOf b) → byteAt (dataOf b) 0 ≤ 15 → (low middle high : ℕ)
+      message b ≡ 0x41 → Accepted (groupRows 1 (dataOf b)) → (low middle high : ℕ)
       → getD g (byteAt (dataOf b) 0) [] ≡ low ∷ middle ∷ high ∷ []
-      → turnOf n g b
-      ≡ replied n Keep (replyTo (n .settings) (headerOf b) 0x61 (byteAt (dataOf b) 0 ∷ low ∷ middle ∷ high ∷ []))
-  pub done-and-asked-is-answered-7Fh :
-      (after : Node) (change : Change) → outcomeOf n g (source b) (message b) (dataOf b) ≡ acts after change
-      → headerOf b .ack ≡ true
-      → turnOf n g b ≡ replied after change (replyTo (n .settings) (headerOf b) 0x7F [])
-  pub done-and-not-asked-is-silent :
-      (after : Node) (change : Change) → outcomeOf n g (source b) (message b) (dataOf b) ≡ acts after change
-      → headerOf b .ack ≡ false
-      → turnOf n g b ≡ silent after change
-  pub refused-and-asked-is-answered-6Fh :
-      (code : Code) → outcomeOf n g (source b) (message b) (dataOf b) ≡ refuses n code → headerOf b .ack ≡ true
-      → turnOf n g b ≡ replied n Keep (replyTo (n .settings) (headerOf b) 0x6F (codeOf code ∷ []))
-  pub refused-and-not-asked-is-silent :
-      (code : Code) → outcomeOf n g (source b) (message b) (dataOf b) ≡ refuses n code → headerOf b .ack ≡ false
-      → turnOf n g b ≡ silent n Keep
+      → Posted n b t 0x61 (byteAt (dataOf b) 0 ∷ low ∷ middle ∷ high ∷ [])

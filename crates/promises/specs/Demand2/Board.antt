@@ -29,7 +29,8 @@ use Rattle.node.specs.{
 use Rattle.messages.specs.Table.{outcomeOf}
 use Rattle.meaning.specs.Membership.{IsOneOf}
 use Rattle.promises.specs.Demand2.Events.{GroupTable, Events}
-use Rattle.promises.specs.Demand2.Effects.{Arrives, Effects, OneIp}
+use Rattle.promises.specs.Demand2.Codes.{Codes}
+use Rattle.promises.specs.Demand2.Effects.{Arrives, Effects}
 use Rattle.promises.specs.Demand2.Answers.{Answers}
 
 -- A board that was set up, after any history: sound, and all that it sends is a reply, by a frame to the asker.
@@ -42,7 +43,7 @@ pub record SinceSetUp (w : State) : Type 0 where
       (b : List ℕ) → Proper (w .node .settings) (headerOf b) (turnOf (w .node) (w .groups) b)
 
 -- Of a sound board; one that is not is refused by row 33.
-pub record Board : Type 0 where
+pub record Board : Type 1 where
   pub sound-exactly-when-in-range : (n : Node) → BoardInRange n ↔ (sound n ≡ true)
   pub meant-is-carried-out-by-the-table :
       (n : Node) (g : Groups) (b : List ℕ) → sound n ≡ true → IsFrame b → Meant (n .settings) g (headerOf b)
@@ -71,6 +72,8 @@ pub record Board : Type 0 where
       → SinceSetUp (lived (begun s) history)
   pub group-table : GroupTable
   pub events : Events
-  pub what-a-message-does : (n : Node) (g : Groups) (b : List ℕ) → Arrives n g b → Effects n g b
-  pub one-IP : OneIp
-  pub what-a-message-is-answered : (n : Node) (g : Groups) (b : List ℕ) → Arrives n g b → Answers n g b
+  pub which-code-refuses-a-message : (n : Node) (g : Groups) (b : List ℕ) → Arrives n g b → Codes n b (turnOf n g b)
+  pub what-a-message-does : (n : Node) (g : Groups) (b : List ℕ) → Arrives n g b → Effects n b (turnOf n g b)
+  -- of numbers that fit their types
+  pub what-a-GET-is-answered :
+      (n : Node) (g : Groups) (b : List ℕ) → Arrives n g b → Typed n → TypedTable g → Answers n g b (turnOf n g b)
