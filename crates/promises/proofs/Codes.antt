@@ -62,6 +62,7 @@ use Rattle.promises.specs.Demand2.Codes.{
   FirstCode,
   Codes,
 }
+use Rattle.promises.specs.Demand2.Turns.{RefusedBy}
 use Rattle.promises.specs.Demand2.Effects.{Arrives}
 use Rattle.promises.proofs.First.{numbered, Alike, at-the-end, in-other-words, as-it-is, fails-exactly-when}
 use Rattle.promises.proofs.Turns.{codeNumber, cameTo, refused-by, first-code, accepted-is-done}
@@ -322,11 +323,13 @@ module _ (n : Node) (g : Groups) (b : List ℕ) (a : Arrives n g b) where
   no-row : (m : ℕ) → ¬ IsOneOf m messages → tables.Passed (messageRows n g (source b) m content)
   no-row m other = each-differs m messages other
 
+  unknown : ¬ IsOneOf (message b) messages → RefusedBy n b (turnOf n g b) 0x10
+  unknown other = refused-by n g b a Code.UnknownMessage (at-no-row n g (source b) (message b) content (no-row (message b) other))
+
   pub codes : Codes n b (turnOf n g b)
   codes =
       record {
-        any-other-message-is-unknown =
-            λ other. refused-by n g b a Code.UnknownMessage (at-no-row n g (source b) (message b) content (no-row (message b) other));
+        any-other-message-is-unknown = unknown;
         a-STOP-is-refused = λ m. stop-by m .refused;
         a-MOVETO-is-refused = λ m. move-by m .refused;
         a-SET_MOTOR_IP-is-refused = λ m. set-ip-by m .refused;
