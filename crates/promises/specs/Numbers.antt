@@ -4,8 +4,6 @@
 use Prim.Native.Nat.{ℕ}
 use mathlib.Core.List.{List, [], _∷_}
 use Rattle.refusal.specs.Number.{numberOf}
-use Rattle.frame.specs.Reading as frame-reading
-use Rattle.frame.specs.Writing as frame-writing
 use Rattle.frame.specs.declared.reading.Reading.{Reading}
 use Rattle.frame.specs.declared.writing.Writing.{Writing}
 use Rattle.line.specs.declared.reader.Answer as line
@@ -15,10 +13,12 @@ use Rattle.motors.specs.declared.answer.Answer as motors
 use Rattle.form.specs.declared.writing.Written.{Written}
 
 abbrev pub readNumber : Reading → ℕ
-readNumber answer = frame-reading.refusedBy answer
+readNumber (Reading.Frame header count) = 0
+readNumber (Reading.Refused refusal) = numberOf refusal
 
 abbrev pub writeNumber : Writing → ℕ
-writeNumber answer = frame-writing.refusedBy answer
+writeNumber (Writing.Next place) = 0
+writeNumber (Writing.Refused refusal) = numberOf refusal
 
 abbrev pub lineNumber : line.Answer → ℕ
 lineNumber line.Answer.Nothing = 0
