@@ -18,4 +18,6 @@ pub mod Demand2
 pub mod Demand3
 pub mod Figures
 pub mod Determined
+pub mod BoardContracts
+pub mod SliceContracts
 pub mod Contracts
