@@ -37,7 +37,7 @@ sents =
     ∷ []
 
 abbrev itself : Told
-itself = frame (headerOf getPosition) getPosition
+itself = frame (headerOf getPosition) 0 getPosition
 
 of-each : wholly fresh (recorded sents .0)
     ≡ itself ∷ refused 5 ∷ refused 1 ∷ refused 6 ∷ refused 4 ∷ refused 1 ∷ refused 1 ∷ refused 1 ∷ refused 1 ∷ refused 1 ∷ itself ∷ []

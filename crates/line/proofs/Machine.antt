@@ -95,7 +95,7 @@ told-same b next h = go (frame-or-refused b)
     go : IsFrame b ⊎ Numbered (readingOf b) → said (answeredBy (readingOf b) (padded b) next) ≡ bundleTold b ∷ []
     go (inl f) =
         let n : 11 + dataCount b ≡ length b = omega (arith, f .from-11-bytes) in
-        rw (frame-is-read b f) (ap (λ (w : List ℕ). frame (headerOf b) w ∷ []) (rw n (take-padded b h)))
+        rw (frame-is-read b f) (ap (λ (w : List ℕ). frame (headerOf b) (dataCount b) w ∷ []) (rw n (take-padded b h)))
     go (inr (q, e, l, u)) = rw e
 
 ended-is : (b : List ℕ) (next : Reader) → said (endedWith (holds b) next) ≡ ended b

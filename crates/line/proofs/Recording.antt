@@ -1,6 +1,6 @@
 -- Of a recording of frames, each with at most one fault, the bundles give the unharmed ones, in order, and refuse the rest.
 -- Assumes nothing.
-use Prim.Native.Nat.{ℕ, suc, _+_, _<_}
+use Prim.Native.Nat.{ℕ, suc, _+_, _-_, _<_}
 use native.Mathlib.Omega.{arith}
 use mathlib.Core.Path.{_≡_, refl, ap}
 use mathlib.Core.Bool.{true}
@@ -68,7 +68,7 @@ mutual
   joined (within {s = s} {b = c} h r) b = rw (lt-leb 30 s h, joined r c)
 
 -- What is told of a frame, and of what is none.
-for-frame : (w : List ℕ) → IsFrame w → bundleTold w ≡ frame (headerOf w) w
+for-frame : (w : List ℕ) → IsFrame w → bundleTold w ≡ frame (headerOf w) (length w - 11) w
 for-frame w e = rw (frame-is-read w e)
 
 for-other : (p : List ℕ) → ¬ IsFrame p → (k : ℕ) × (bundleTold p ≡ refused k) × Number k

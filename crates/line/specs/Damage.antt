@@ -1,12 +1,11 @@
 -- Demand 3's words: faults on the line, recordings of damaged frames, and what the reader owes of them.
 -- Assumes nothing.
-use Prim.Native.Nat.{ℕ, suc, _≤_, _<_}
+use Prim.Native.Nat.{ℕ, suc, _-_, _≤_, _<_}
 use mathlib.Core.Logic.{_≢_}
 use mathlib.Core.List.{List, [], _∷_, _++_}
 use lib.ListN.{length, getD, take, drop, set}
 use Rattle.frame.specs.Layout.{headerOf}
 use Rattle.frame.specs.Reading.{IsFrame}
-use Rattle.line.specs.Reader.{endingSilence}
 use Rattle.line.specs.Telling.{Entry, after, Told, frame, refused}
 
 -- What can befall a frame, at the byte of index i: it is changed, lost, another is put in before it, a silence is put
@@ -62,8 +61,8 @@ mutual
         → Pieces m ((b ∷ p) ∷ ps) (after s b ∷ es)
 
   pub data Rest : List ℕ → List (List ℕ) → List Entry → Type 0 where
-    over : {ps : List (List ℕ)} {es : List Entry} → Pieces endingSilence ps es → Rest [] ps es
-    within : {s b : ℕ} {p : List ℕ} {ps : List (List ℕ)} {es : List Entry} → s < endingSilence → Rest p ps es
+    over : {ps : List (List ℕ)} {es : List Entry} → Pieces 30 ps es → Rest [] ps es
+    within : {s b : ℕ} {p : List ℕ} {ps : List (List ℕ)} {es : List Entry} → s < 30 → Rest p ps es
         → Rest (b ∷ p) ps (after s b ∷ es)
 
 -- A recording of these frames: the silences between frames stay, and the one before the first byte of all is any.
@@ -73,7 +72,7 @@ Recording ss es = Pieces 0 (heard ss) es
 -- What the reader hands out: the frames among what it tells.
 abbrev pub handed : List Told → List (List ℕ)
 handed [] = []
-handed (frame h b ∷ xs) = b ∷ handed xs
+handed (frame h n b ∷ xs) = b ∷ handed xs
 handed (refused k ∷ xs) = handed xs
 
 -- A refusal of a bundle is by one of six numbers.
@@ -83,15 +82,15 @@ Number k = (1 ≤ k) × (k ≤ 6)
 -- All that is told beside the frames is numbered refusals.
 abbrev pub Numbered : List Told → Type 0
 Numbered [] = Unit {0}
-Numbered (frame h b ∷ xs) = Numbered xs
+Numbered (frame h n b ∷ xs) = Numbered xs
 Numbered (refused k ∷ xs) = Number k × Numbered xs
 
--- What the reader owes of the frames, in their order: an unharmed one gives itself, a harmed one gives one refusal or
--- two.
+-- What the reader owes of the frames, in their order: an unharmed one gives itself, all but 11 of its bytes counted as
+-- DATA; a harmed one gives one refusal or two.
 pub data Owed : List Sent → List Told → Type 0 where
   nothing : Owed [] []
   itself : {w : List ℕ} {e : IsFrame w} {ss : List Sent} {xs : List Told} → Owed ss xs
-      → Owed (whole w e ∷ ss) (frame (headerOf w) w ∷ xs)
+      → Owed (whole w e ∷ ss) (frame (headerOf w) (length w - 11) w ∷ xs)
   once : {w : List ℕ} {e : IsFrame w} {f : Fault} {h : Befalls f w} {k : ℕ} {ss : List Sent} {xs : List Told}
       → Number k → Owed ss xs → Owed (harmed w e f h ∷ ss) (refused k ∷ xs)
   twice : {w : List ℕ} {e : IsFrame w} {f : Fault} {h : Befalls f w} {k j : ℕ} {ss : List Sent} {xs : List Told}

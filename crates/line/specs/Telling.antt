@@ -18,14 +18,15 @@ use Rattle.line.specs.declared.reader.Stepped.{Stepped}
 pub data Entry : Type 0 where
   after : (silence byte : ℕ) → Entry
 
--- A bundle is told by its header and its bytes where it is a frame, and by the number of its refusal where it is none.
+-- A bundle is told by its header, how many bytes of DATA it has and its bytes where it is a frame, and by the number of
+-- its refusal where it is none.
 pub data Told : Type 0 where
-  frame : Header → List ℕ → Told
+  frame : Header → (count : ℕ) → List ℕ → Told
   refused : ℕ → Told
 
 abbrev pub toldBy : Answer → List ℕ → List Told
 toldBy Nothing bundle = []
-toldBy (Frame h n) bundle = frame h (take (11 + n) bundle) ∷ []
+toldBy (Frame h n) bundle = frame h n (take (11 + n) bundle) ∷ []
 toldBy (Refused q) bundle = refused (numberOf q) ∷ []
 
 abbrev pub said : Stepped → List Told
