@@ -1,26 +1,22 @@
--- A run is single steps: one step more, the step that ends it, its end; and what it tells is what they tell.
+-- A run is single steps: one step more, the step that ends it, its end.
 -- Assumes nothing.
 use Prim.Native.Nat.{ℕ, zero, suc, _+_, _-_, _≤_, _<_}
 use native.Mathlib.Omega.{arith}
 use native.Mathlib.Numerals.{add-one}
-use mathlib.Core.Path.{_≡_, refl, _∙_, sym}
+use mathlib.Core.Path.{_≡_, refl, _∙_}
 use mathlib.Core.Logic.{_≢_, _⊎_, inl, inr}
 use mathlib.Core.Bool.{Bool, true, false}
-use mathlib.Core.List.{List, [], _∷_, append-nil, foldl}
+use mathlib.Core.List.{List, _∷_, foldl}
 use borrow.Author.Tests.{ltb-true, ltb-false}
 use lib.Dec.{ltb}
 use lib.ListN.{length, getD, take, drop, drop-of-length-le}
 use lib.Seq.{drop-cons}
-use Rattle.meaning.specs.Choice.{if_then_else_, false-is-not-true}
 use Rattle.frame.specs.Reading.{readingOf}
 use Rattle.frame.specs.declared.reading.Reading.{Reading}
 use Rattle.line.specs.Reader.{joined, stepped, ran, goesOn, answeredBy, endedWith, stepOf, runOf, noBytes}
 use Rattle.line.specs.declared.reader.Reader.{Reader}
 use Rattle.line.specs.declared.reader.Stepped.{Stepped}
-use Rattle.line.specs.declared.reader.Ran.{Ran}
-use Rattle.line.specs.declared.reader.Answer.{Answer}
-use Rattle.line.specs.declared.reader.Answer.the-variants.{Nothing, Frame, Refused}
-use Rattle.line.specs.Telling.{entries, toldBy, said, telling, readerAfter, Steps}
+use Rattle.line.specs.declared.reader.Answer.the-variants.{Nothing}
 use Rattle.line.proofs.Joining.{joined-open, stays-open}
 use Rattle.line.proofs.Sound.{Sound, goes-on, sound-joined}
 use Rattle.line.proofs.Steps.{ended-too-long, ended-read}
@@ -97,64 +93,3 @@ module _ (bytes silences : List ℕ) (alike : length bytes ≡ length silences) 
     open-there (inr (e, z)) h =
         let byte = getD bytes i 0 in
         rw (first-apart i j (omega arith) within) (stays-open (joined r byte) (take (j - (i + 1)) (drop (i + 1) bytes)) (joined-open r byte))
-
--- What does not end the run tells nothing.
-silent : (a : Answer) (bundle : List ℕ) → goesOn a ≡ true → toldBy a bundle ≡ []
-silent Nothing bundle e = refl
-silent (Frame h n) bundle e = absurd (false-is-not-true e)
-silent (Refused q) bundle e = absurd (false-is-not-true e)
-
-pub run-is-steps : (r : Reader) (bytes silences : List ℕ) (place : ℕ) → length bytes ≡ length silences
-    → Steps r bytes silences place (runOf r bytes silences place)
-unfolding runOf
-run-is-steps r [] silences place n =
-    record {
-      read = 0;
-      to-place = omega arith;
-      within = omega arith;
-      tells = refl;
-      leaves = refl;
-      not-before = λ k h. absurd
-          (omega arith);
-      stops = λ e. refl;
-    }
-run-is-steps r (byte ∷ bytes) [] place n = absurd (omega arith)
-run-is-steps r (byte ∷ bytes) (silence ∷ silences) place n =
-    go (goesOn (s .answer)) refl (run-is-steps (s .reader) bytes silences (suc place) (omega arith))
-  where
-    s : Stepped
-    s = stepOf r byte silence
-
-    early : goesOn (s .answer) ≡ true → (j : ℕ) → ((k : ℕ) → k < j → telling (s .reader) (entries (take k bytes) (take k silences)) ≡ [])
-        → (k : ℕ) → k < suc j → telling r (entries (take k (byte ∷ bytes)) (take k (silence ∷ silences))) ≡ []
-    early t j f zero h = refl
-    early t j f (suc k) h = rw (silent (s .answer) (s .bundle) t) (f k (omega arith))
-
-    first : (k : ℕ) → k < 1 → telling r (entries (take k (byte ∷ bytes)) (take k (silence ∷ silences))) ≡ []
-    first zero h = refl
-    first (suc k) h = absurd (omega arith)
-
-    go : (t : Bool) → goesOn (s .answer) ≡ t → Steps (s .reader) bytes silences (suc place) (runOf (s .reader) bytes silences (suc place))
-        → Steps r (byte ∷ bytes) (silence ∷ silences) place (if t then runOf (s .reader) bytes silences (suc place) else ran s (suc place))
-    go true t i =
-        let p = i .to-place in
-        let w = i .within in
-        record {
-          read = suc (i .read);
-          to-place = omega arith;
-          within = omega arith;
-          tells = rw (silent (s .answer) (s .bundle) t) (i .tells);
-          leaves = i .leaves;
-          not-before = early t (i .read) (i .not-before);
-          stops = λ e. omega (arith, i .stops e);
-        }
-    go false t i =
-        record {
-          read = 1;
-          to-place = omega arith;
-          within = omega arith;
-          tells = append-nil (said s);
-          leaves = refl;
-          not-before = first;
-          stops = λ e. absurd (false-is-not-true (sym t ∙ e));
-        }

@@ -1,17 +1,14 @@
 -- What the reader tells of a recording, in the paper's words: single steps, one after another, and then the close.
 -- Assumes nothing.
-use Prim.Native.Nat.{ℕ, _+_, _≤_, _<_}
-use mathlib.Core.Path.{_≡_}
-use mathlib.Core.Bool.{true}
+use Prim.Native.Nat.{ℕ, _+_}
 use mathlib.Core.List.{List, [], _∷_, _++_}
-use lib.ListN.{length, take}
+use lib.ListN.{take}
 use Rattle.refusal.specs.Number.{numberOf}
 use Rattle.frame.specs.declared.header.Header.{Header}
-use Rattle.line.specs.Reader.{goesOn, stepOf, closeOf}
+use Rattle.line.specs.Reader.{stepOf, closeOf}
 use Rattle.line.specs.declared.reader.Reader.{Reader}
 use Rattle.line.specs.declared.reader.Answer.{Answer}
 use Rattle.line.specs.declared.reader.Answer.the-variants.{Nothing, Frame, Refused}
-use Rattle.line.specs.declared.reader.Ran.{Ran}
 use Rattle.line.specs.declared.reader.Stepped.{Stepped}
 
 -- A byte, with the tenths of a millisecond of silence before it.
@@ -51,15 +48,3 @@ abbrev pub entries : (bytes silences : List ℕ) → List Entry
 entries [] silences = []
 entries (byte ∷ bytes) [] = []
 entries (byte ∷ bytes) (silence ∷ silences) = after silence byte ∷ entries bytes silences
-
--- A run reads some entries, no more than there are: it tells what single steps tell of them, leaves the reader that
--- they leave, and before
--- the last of them nothing is told; it stops early only to tell something.
-pub record Steps (r : Reader) (bytes silences : List ℕ) (place : ℕ) (x : Ran) : Type 0 where
-  pub read : ℕ
-  pub to-place : x .place ≡ place + read
-  pub within : read ≤ length bytes
-  pub tells : telling r (entries (take read bytes) (take read silences)) ≡ said (x .stepped)
-  pub leaves : readerAfter r (entries (take read bytes) (take read silences)) ≡ x .stepped .reader
-  pub not-before : (k : ℕ) → k < read → telling r (entries (take k bytes) (take k silences)) ≡ []
-  pub stops : goesOn (x .stepped .answer) ≡ true → read ≡ length bytes

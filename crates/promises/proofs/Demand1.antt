@@ -54,6 +54,7 @@ use Rattle.form.specs.declared.writing.Written.{Written}
 use Rattle.form.proofs.FormLaws.{a-refused-form-leaves-the-run-as-it-was, a-refused-writing-changes-no-byte}
 use Rattle.promises.specs.Numbers.{writeNumber, lineNumber, eventNumber, turnNumber, registerNumber, formNumber, noFrame}
 use Rattle.promises.specs.Demand1.{Demand1}
+use Rattle.promises.proofs.ReaderInRange.{is-sound, is-broken}
 use Rattle.promises.proofs.Rows.{rows}
 
 -- ---- a number that is not 0 is a refusal's
@@ -176,11 +177,11 @@ kept =
     record {
       rows = rows;
       write = write;
-      step-9 = step-broken;
-      close-9 = close-broken;
-      run-9 = run-broken;
-      run-7 = run-unequal;
-      run-8 = run-past-end;
+      step-9 = λ r byte silence n. step-broken r byte silence (is-broken r n);
+      close-9 = λ r n. close-broken r (is-broken r n);
+      run-9 = λ r bytes silences place n. run-broken r bytes silences place (is-broken r n);
+      run-7 = λ r bytes silences place i. run-unequal r bytes silences place (is-sound r i);
+      run-8 = λ r bytes silences place i. run-past-end r bytes silences place (is-sound r i);
       step-drops = step-drops;
       close-drops = close-drops;
       run-drops = run-drops;

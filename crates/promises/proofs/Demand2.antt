@@ -52,6 +52,7 @@ use Rattle.promises.specs.Demand2.Positions.{Positions}
 use Rattle.promises.specs.Demand2.Register.{Filed, StruckOut, Register}
 use Rattle.promises.specs.Demand2.StoredForm.{StoredForm}
 use Rattle.promises.specs.Demand2.{Demand2}
+use Rattle.promises.proofs.LineReader.{line-reader}
 use Rattle.promises.proofs.RegisterInRange.{found-exactly-when}
 use Rattle.promises.proofs.RegisterInRange.{sound-exactly-when as row-19-exactly-when}
 use Rattle.promises.proofs.Stored.{of-its-length, behind, buffer-length}
@@ -160,4 +161,12 @@ stored-form =
     }
 
 pub kept : Demand2
-kept = record { frames = frames; board = board; positions = positions; register = register; stored-form = stored-form }
+kept =
+    record {
+      frames = frames;
+      line-reader = line-reader;
+      board = board;
+      positions = positions;
+      register = register;
+      stored-form = stored-form;
+    }

@@ -9,7 +9,10 @@ pub mod Codes
 pub mod Effects
 pub mod Answers
 pub mod ReportBytes
+pub mod ReaderInRange
 pub mod Rows
+pub mod LineReader
+pub mod RunAfterRun
 pub mod Fileable
 pub mod Readings
 pub mod Stored

@@ -3,14 +3,13 @@
 use Prim.Native.Nat.{ℕ, suc, _+_, _*_, _≤_, _<_}
 use native.Mathlib.Omega.{arith}
 use mathlib.Core.Path.{subst, _≡_, refl, _∙_, sym, ap₂}
-use mathlib.Core.Logic.{_≢_, _↔_, inl, inr, ⊎-elim}
+use mathlib.Core.Logic.{_≢_, _↔_}
 use mathlib.Core.Bool.{Bool, true, false, not, _||_, false≢true}
 use mathlib.Core.List.{List, [], _∷_, _++_}
 use mathlib.Core.Option.{none}
 use lib.Dec.{eqb, leb, ltb}
 use lib.ListN.{length, take, drop}
 use borrow.Author.Tests.{leb-true, leb-false, ltb-true, ltb-false, eqb-true, eqb-false, ne-eqb, not-true, not-false}
-use Rattle.meaning.specs.Cases.{by-test, passed-both}
 use Rattle.meaning.specs.Choice.{either}
 use Rattle.meaning.specs.Tests.{_below_, _is-not_, unless}
 use Rattle.frame.specs.Layout.{message, source, headerOf, dataOf, dataCount}
@@ -19,12 +18,11 @@ use Rattle.frame.specs.Writing.{writerTable, writingOf}
 use Rattle.frame.specs.declared.header.Header.{Header}
 use Rattle.frame.specs.declared.reading.Reading.{Reading}
 use Rattle.frame.specs.declared.writing.Writing.{Writing}
-use Rattle.line.specs.Reader.{allZeros, isSound, endingSilence, begun, fresh, answeredBy, endedWith, stepOf, closeOf, goesOn, runOf, ranOf}
+use Rattle.line.specs.Reader.{isSound, endingSilence, begun, fresh, answeredBy, endedWith, stepOf, closeOf, goesOn, runOf, ranOf}
 use Rattle.line.specs.declared.reader.Reader.{Reader}
 use Rattle.line.specs.declared.reader.Stepped.{Stepped}
 use Rattle.line.specs.declared.reader.Ran.{Ran}
 use Rattle.line.proofs.Steps.{ended-empty, ended-too-long, ended-read, step-ends, step-joins}
-use Rattle.line.proofs.Sound.{Sound as SoundReader, sound-facts, is-sound, sound-step}
 use Rattle.travel.specs.declared.Pulse.{Pulse}
 use Rattle.board.specs.Settings.{inRange}
 use Rattle.board.specs.Node.{sound}
@@ -54,6 +52,8 @@ use Rattle.motors.specs.declared.answer.Answer.{Answer}
 use Rattle.motors.specs.declared.answer.Answer.the-variants.{Count}
 use Rattle.motors.specs.declared.report.Report.{Report}
 use Rattle.motors.specs.declared.report.Report.the-variants.{Seen}
+use Rattle.promises.specs.ReaderInRange.{ReaderInRange}
+use Rattle.promises.proofs.ReaderInRange.{in-range-exactly-when, is-sound, stays-in-range}
 use Rattle.promises.specs.RegisterInRange.{RegisterInRange}
 use Rattle.promises.proofs.RegisterInRange.{sound-exactly-when}
 use Rattle.promises.proofs.ReportBytes.{bad-by-its-bytes}
@@ -75,7 +75,6 @@ use Rattle.promises.specs.Rows.{
   in-case,
   bundleRows,
   writerRows,
-  brokenReader,
   openRows,
   reportRows,
   fileRows,
@@ -118,15 +117,6 @@ told s = lineNumber (s .answer)
 abbrev toldByRun : Ran → ℕ
 toldByRun x = told (x .stepped)
 
-broken-is : (r : Reader) → not (isSound r) ≡ true → brokenReader r
-broken-is r e =
-    by-test (leb (r .count) 32) (λ t. inr (rw t at (not-true (isSound r) e))) (λ t. inl (leb-false (r .count) 32 t))
-
-broken-not : (r : Reader) → not (isSound r) ≡ false → ¬ brokenReader r
-broken-not r e =
-    let s = passed-both (leb (r .count) 32) (allZeros (drop (r .count) (r .kept))) (not-false _ e) in
-    ⊎-elim (λ h. omega (arith, leb-true (r .count) 32 (s .0))) (λ z. false≢true (sym z ∙ s .1))
-
 told-as-read : (x : Reading) (kept : List ℕ) (next : Reader) → told (answeredBy x kept next) ≡ readNumber x
 told-as-read (Reading.Frame h count) kept next = refl
 told-as-read (Reading.Refused q) kept next = refl
@@ -147,47 +137,47 @@ ended r next = go (eqb (r .count) 0) refl (ltb 31 (r .count)) refl
         rw (ended-read r next (eqb-false (r .count) 0 t) few, told-as-read (readingOf (take (r .count) (r .kept))) (r .kept) next)
         (passes (λ (h : 31 < r .count). omega arith) (case-holds (eqb-false (r .count) 0 t) (read (take (r .count) (r .kept)))))
 
-step : (r : Reader) (byte silence : ℕ) → FirstOf (9 when (brokenReader r) ∷ in-case (30 ≤ silence) (openRows r)) (told (stepOf r byte silence))
+step : (r : Reader) (byte silence : ℕ) → FirstOf (9 when (¬ ReaderInRange r) ∷ in-case (30 ≤ silence) (openRows r)) (told (stepOf r byte silence))
 unfolding stepOf
 step r byte silence =
-    row told (finds (not (isSound r)) (broken-is r) (broken-not r)) λ fine.
+    row told (unless (isSound r) (in-range-exactly-when r)) λ fine.
     choice (λ (s : Stepped). FirstOf (in-case (30 ≤ silence) (openRows r)) (told s)) (leb endingSilence silence)
     (λ t. case-holds (leb-true 30 silence t) (ended r (begun byte)))
     (λ t. case-fails (openRows r) (λ (h : 30 ≤ silence). omega (arith, leb-false 30 silence t)) refl)
 
-close : (r : Reader) → FirstOf (9 when (brokenReader r) ∷ openRows r) (told (closeOf r))
+close : (r : Reader) → FirstOf (9 when (¬ ReaderInRange r) ∷ openRows r) (told (closeOf r))
 unfolding closeOf
-close r = row told (finds (not (isSound r)) (broken-is r) (broken-not r)) (λ fine. ended r fresh)
+close r = row told (unless (isSound r) (in-range-exactly-when r)) (λ fine. ended r fresh)
 
--- A sound reader's step gives 0 or a number of a bundle, and so does its run.
-step-number : (r : Reader) (byte silence : ℕ) → SoundReader r → IsOneOf (told (stepOf r byte silence)) (0 ∷ noFrame)
-step-number r byte silence s = go (leb 30 silence) refl
+-- A step of a reader in range gives 0 or a number of a bundle, and so does its run.
+step-number : (r : Reader) (byte silence : ℕ) → ReaderInRange r → IsOneOf (told (stepOf r byte silence)) (0 ∷ noFrame)
+step-number r byte silence i = go (leb 30 silence) refl
   where
     go : (t : Bool) → leb 30 silence ≡ t → IsOneOf (told (stepOf r byte silence)) (0 ∷ noFrame)
     go true t =
-        rw (step-ends r byte silence (is-sound r s) (leb-true 30 silence t))
+        rw (step-ends r byte silence (is-sound r i) (leb-true 30 silence t))
         (within noFrame (search) (ended r (begun byte)))
-    go false t = rw (step-joins r byte silence (is-sound r s) (leb-false 30 silence t)) (as-first refl)
+    go false t = rw (step-joins r byte silence (is-sound r i) (leb-false 30 silence t)) (as-first refl)
 
-run-number : (r : Reader) (bytes silences : List ℕ) (place : ℕ) → SoundReader r → IsOneOf (toldByRun (runOf r bytes silences place)) (0 ∷ noFrame)
+run-number : (r : Reader) (bytes silences : List ℕ) (place : ℕ) → ReaderInRange r → IsOneOf (toldByRun (runOf r bytes silences place)) (0 ∷ noFrame)
 unfolding runOf
-run-number r [] silences place s = as-first refl
-run-number r (byte ∷ bytes) [] place s = as-first refl
-run-number r (byte ∷ bytes) (silence ∷ silences) place s =
+run-number r [] silences place i = as-first refl
+run-number r (byte ∷ bytes) [] place i = as-first refl
+run-number r (byte ∷ bytes) (silence ∷ silences) place i =
     either (λ (x : Ran). IsOneOf (toldByRun x) (0 ∷ noFrame)) (goesOn (stepOf r byte silence .answer))
-    (λ t. run-number (stepOf r byte silence .reader) bytes silences (suc place) (sound-step r byte silence s))
-    (λ t. step-number r byte silence s)
+    (λ t. run-number (stepOf r byte silence .reader) bytes silences (suc place) (stays-in-range r byte silence i))
+    (λ t. step-number r byte silence i)
 
-run : (r : Reader) (bytes silences : List ℕ) (place : ℕ) → length (r .kept) ≡ 31
+run : (r : Reader) (bytes silences : List ℕ) (place : ℕ)
     → First (λ given. IsOneOf given (0 ∷ noFrame))
-    (9 when (brokenReader r) ∷ 7 when (length bytes ≢ length silences) ∷ 8 when (length bytes < place) ∷ [])
+    (9 when (¬ ReaderInRange r) ∷ 7 when (length bytes ≢ length silences) ∷ 8 when (length bytes < place) ∷ [])
     (toldByRun (ranOf r bytes silences place))
 unfolding ranOf
-run r bytes silences place n =
-    row toldByRun (finds (not (isSound r)) (broken-is r) (broken-not r)) λ fine.
+run r bytes silences place =
+    row toldByRun (unless (isSound r) (in-range-exactly-when r)) λ fine.
     row toldByRun (length bytes is-not length silences) λ even.
     row toldByRun (length bytes below place) λ within.
-    none-applies (run-number r (drop place bytes) (drop place silences) place (sound-facts r n (not-false _ fine)))
+    none-applies (run-number r (drop place bytes) (drop place silences) place fine)
 
 -- ---- the board
 abbrev decided : After → ℕ

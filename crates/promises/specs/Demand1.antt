@@ -8,13 +8,13 @@
 use Prim.Native.Nat.{ℕ, _-_, _<_}
 use mathlib.Core.Path.{_≡_}
 use mathlib.Core.Logic.{_≢_}
-use mathlib.Core.Bool.{true, false}
+use mathlib.Core.Bool.{false}
 use mathlib.Core.List.{List}
 use lib.ListN.{length, getD}
 use Rattle.refusal.specs.declared.Refusal.{Refusal}
 use Rattle.frame.specs.Writing.{writingOf, bufferAfter as bufferWritten}
 use Rattle.frame.specs.declared.header.Header.{Header}
-use Rattle.line.specs.Reader.{isSound, stepOf, closeOf, ranOf, broken, refusing, begun, fresh, noBytes}
+use Rattle.line.specs.Reader.{stepOf, closeOf, ranOf}
 use Rattle.line.specs.declared.reader.Reader.{Reader}
 use Rattle.travel.specs.declared.Pulse.{Pulse}
 use Rattle.board.specs.Node.{sound}
@@ -38,6 +38,7 @@ use Rattle.promises.specs.Numbers.{
   formNumber,
   noFrame,
 }
+use Rattle.promises.specs.ReaderInRange.{ReaderInRange, zeros31, noneOpen, begunWith, withRefusal}
 use Rattle.promises.specs.Rows.{Rows}
 
 pub record Demand1 : Type 1 where
@@ -48,30 +49,32 @@ pub record Demand1 : Type 1 where
       (buffer : List ℕ) (place : ℕ) (h : Header) (d : List ℕ) → writeNumber (writingOf (length buffer) place h d) ≢ 0
       → bufferWritten buffer place h d ≡ buffer
   -- the line reader, rows 9, 7 and 8: the very reader, and nothing read
-  pub step-9 : (r : Reader) (byte silence : ℕ) → isSound r ≡ false → stepOf r byte silence ≡ broken r
-  pub close-9 : (r : Reader) → isSound r ≡ false → closeOf r ≡ broken r
-  pub run-9 : (r : Reader) (bytes silences : List ℕ) (place : ℕ) → isSound r ≡ false
-      → ranOf r bytes silences place ≡ refusing r Refusal.BrokenReader place
+  pub step-9 : (r : Reader) (byte silence : ℕ) → ¬ ReaderInRange r
+      → stepOf r byte silence ≡ withRefusal r Refusal.BrokenReader
+  pub close-9 : (r : Reader) → ¬ ReaderInRange r → closeOf r ≡ withRefusal r Refusal.BrokenReader
+  pub run-9 : (r : Reader) (bytes silences : List ℕ) (place : ℕ) → ¬ ReaderInRange r
+      → ranOf r bytes silences place ≡ record { stepped = withRefusal r Refusal.BrokenReader; place = place }
   pub run-7 :
-      (r : Reader) (bytes silences : List ℕ) (place : ℕ) → isSound r ≡ true → length bytes ≢ length silences
-      → ranOf r bytes silences place ≡ refusing r Refusal.UnequalRuns place
+      (r : Reader) (bytes silences : List ℕ) (place : ℕ) → ReaderInRange r → length bytes ≢ length silences
+      → ranOf r bytes silences place ≡ record { stepped = withRefusal r Refusal.UnequalRuns; place = place }
   pub run-8 :
-      (r : Reader) (bytes silences : List ℕ) (place : ℕ) → isSound r ≡ true → length bytes ≡ length silences
+      (r : Reader) (bytes silences : List ℕ) (place : ℕ) → ReaderInRange r → length bytes ≡ length silences
       → length bytes < place
-      → ranOf r bytes silences place ≡ refusing r Refusal.PlacePastEnd place
+      → ranOf r bytes silences place ≡ record { stepped = withRefusal r Refusal.PlacePastEnd; place = place }
   -- rows 1 to 6: the bundle is dropped, none of it is handed out, and the reader goes on with the byte that ended it;
-  -- at the close it is fresh
+  -- at the close none is open
   pub step-drops :
       (r : Reader) (byte silence : ℕ) → IsOneOf (lineNumber (stepOf r byte silence .answer)) noFrame
-      → (stepOf r byte silence .reader ≡ begun byte) × (stepOf r byte silence .bundle ≡ noBytes)
+      → (stepOf r byte silence .reader ≡ begunWith byte) × (stepOf r byte silence .bundle ≡ zeros31)
   pub close-drops :
       (r : Reader) → IsOneOf (lineNumber (closeOf r .answer)) noFrame
-      → (closeOf r .reader ≡ fresh) × (closeOf r .bundle ≡ noBytes)
+      → (closeOf r .reader ≡ noneOpen) × (closeOf r .bundle ≡ zeros31)
   pub run-drops :
       (r : Reader) (bytes silences : List ℕ) (place : ℕ)
       → IsOneOf (lineNumber (ranOf r bytes silences place .stepped .answer)) noFrame
-      → (ranOf r bytes silences place .stepped .reader ≡ begun (getD bytes (ranOf r bytes silences place .place - 1) 0))
-      × (ranOf r bytes silences place .stepped .bundle ≡ noBytes)
+      → (ranOf r bytes silences place .stepped .reader
+      ≡ begunWith (getD bytes (ranOf r bytes silences place .place - 1) 0))
+      × (ranOf r bytes silences place .stepped .bundle ≡ zeros31)
   -- the board: no node that any later call accepts is made, or the very node is kept, the group table too, and there is
   -- no reply
   pub set-up : (s : Settings) → eventNumber (setUp s .verdict) ≢ 0 → sound (setUp s .node) ≡ false

@@ -5,6 +5,7 @@
 -- other motor's record.
 -- Assumes nothing.
 pub mod Frames
+pub mod LineReader
 pub mod Events
 pub mod Turns
 pub mod Codes
@@ -17,6 +18,7 @@ pub mod StoredForm
 
 pub record Demand2 : Type 1 where
   pub frames : Frames.Frames
+  pub line-reader : LineReader.LineReader
   pub board : Board.Board
   pub positions : Positions.Positions
   pub register : Register.Register

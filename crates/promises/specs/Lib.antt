@@ -1,5 +1,5 @@
 -- What the customer is promised. Read Demand1, Demand2, Demand3, Figures, Determined and Contracts; Numbers, Rows,
--- RegisterInRange and Fileable say words that the demands use.
+-- ReaderInRange, RegisterInRange and Fileable say words that the demands use.
 -- Signs: `→` then, `×` and, `⊎` or, `¬` not, `↔` exactly when, `≡` is, `≢` is not, `x .f` the field f of x, `(x : T) →`
 -- for every x, `(x : T) ×` for some x.
 -- `Contracts` says that the contracts in the source are the meanings that the demands speak of, function by function:
@@ -8,6 +8,7 @@ pub mod Wire
 pub mod BoardParts
 pub mod Numbers
 pub mod Reply
+pub mod ReaderInRange
 pub mod RegisterInRange
 pub mod Rows
 pub mod Fileable

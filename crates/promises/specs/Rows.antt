@@ -6,11 +6,11 @@ use mathlib.Core.Logic.{_≢_, _⊎_}
 use mathlib.Core.Bool.{false}
 use mathlib.Core.List.{List, [], _∷_, _++_}
 use mathlib.Core.Option.{none}
-use lib.ListN.{length, getD, take, drop}
+use lib.ListN.{length, getD, take}
 use Rattle.frame.specs.Reading.{readingOf}
 use Rattle.frame.specs.Writing.{writingOf}
 use Rattle.frame.specs.declared.header.Header.{Header}
-use Rattle.line.specs.Reader.{allZeros, stepOf, closeOf, ranOf}
+use Rattle.line.specs.Reader.{stepOf, closeOf, ranOf}
 use Rattle.line.specs.declared.reader.Reader.{Reader}
 use Rattle.travel.specs.declared.Pulse.{Pulse}
 use Rattle.board.specs.Events.{setUp, afterPulse, afterBlocked, afterCleared, afterPowerUp}
@@ -28,6 +28,7 @@ use Rattle.form.specs.FormOne.{formOne}
 use Rattle.form.specs.Reading.{readOf}
 use Rattle.form.specs.Writing.{writtenOf}
 use Rattle.promises.specs.Wire.{raw, message, ext, len, summed, stated, source, destination, dataCount}
+use Rattle.promises.specs.ReaderInRange.{ReaderInRange}
 use Rattle.promises.specs.RegisterInRange.{RegisterInRange}
 use Rattle.promises.specs.Numbers.{
   readNumber,
@@ -82,9 +83,6 @@ writerRows room place h d =
     ∷ []
 
 -- ---- the line reader
-abbrev pub brokenReader : Reader → Type 0
-brokenReader r = (32 < r .count) ⊎ (allZeros (drop (r .count) (r .kept)) ≡ false)
-
 -- The open bundle when it ends: counted beyond 31 it is too long, and an empty one is never reported.
 abbrev pub openRows : Reader → List Row
 openRows r = 2 when (31 < r .count) ∷ in-case (r .count ≢ 0) (bundleRows (take (r .count) (r .kept)))
@@ -129,12 +127,12 @@ pub record Rows : Type 1 where
   -- the line reader
   pub step :
       (r : Reader) (byte silence : ℕ)
-      → FirstOf (9 when (brokenReader r) ∷ in-case (30 ≤ silence) (openRows r)) (lineNumber (stepOf r byte silence .answer))
-  pub close : (r : Reader) → FirstOf (9 when (brokenReader r) ∷ openRows r) (lineNumber (closeOf r .answer))
-  -- a run, of a reader that keeps 31 bytes as all of the code do; then as its single steps: 0, or one of rows 1 to 6
+      → FirstOf (9 when (¬ ReaderInRange r) ∷ in-case (30 ≤ silence) (openRows r)) (lineNumber (stepOf r byte silence .answer))
+  pub close : (r : Reader) → FirstOf (9 when (¬ ReaderInRange r) ∷ openRows r) (lineNumber (closeOf r .answer))
+  -- a run: behind rows 9, 7 and 8 as its single steps, 0 or one of rows 1 to 6
   pub run :
-      (r : Reader) (bytes silences : List ℕ) (place : ℕ) → length (r .kept) ≡ 31
-      → First (λ given. IsOneOf given (0 ∷ noFrame)) (9 when (brokenReader r) ∷ 7 when (length bytes ≢ length silences) ∷ 8 when (length bytes < place) ∷ [])
+      (r : Reader) (bytes silences : List ℕ) (place : ℕ)
+      → First (λ given. IsOneOf given (0 ∷ noFrame)) (9 when (¬ ReaderInRange r) ∷ 7 when (length bytes ≢ length silences) ∷ 8 when (length bytes < place) ∷ [])
       (lineNumber (ranOf r bytes silences place .stepped .answer))
   -- the board
   pub set-up : (s : Settings) → FirstOf (32 when (¬ SettingsInRange s) ∷ []) (eventNumber (setUp s .verdict))
