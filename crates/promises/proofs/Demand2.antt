@@ -4,17 +4,6 @@ use Prim.Native.Nat.{ℕ}
 use native.Mathlib.Omega.{arith}
 use mathlib.Core.Path.{_≡_}
 use mathlib.Core.List.{List}
-use lib.ListN.{length}
-use Rattle.frame.proofs.Frames.{frame-exactly-when}
-use Rattle.frame.proofs.Buffers.{
-  written-exactly-when,
-  writable-is-written,
-  untouched-before,
-  untouched-behind,
-  length-kept,
-  read-of-written,
-  written-of-read,
-}
 use Rattle.travel.specs.Position.{percent-nearest, pulse-nearest, there-and-back}
 use Rattle.board.proofs.Ranges.{sound-exactly-when}
 use Rattle.node.proofs.Laws.{
@@ -46,7 +35,6 @@ use Rattle.form.proofs.FormLaws.{
   an-accepted-form-gives-a-sound-register,
   the-count-is-the-one-stored,
 }
-use Rattle.promises.specs.Demand2.Frames.{Frames}
 use Rattle.promises.specs.Demand2.Board.{Board}
 use Rattle.promises.specs.Demand2.Positions.{Positions}
 use Rattle.promises.specs.Demand2.Register.{Filed, StruckOut, Register}
@@ -56,6 +44,7 @@ use Rattle.promises.proofs.LineReader.{line-reader}
 use Rattle.promises.proofs.RegisterInRange.{found-exactly-when}
 use Rattle.promises.proofs.RegisterInRange.{sound-exactly-when as row-19-exactly-when}
 use Rattle.promises.proofs.Stored.{of-its-length, behind, buffer-length}
+use Rattle.promises.proofs.Frames.{frames}
 use Rattle.promises.proofs.GroupTable.{group-table}
 use Rattle.promises.proofs.Events.{events}
 use Rattle.promises.proofs.Codes.{codes}
@@ -84,19 +73,6 @@ struck-out run count line node n e =
       the-motor-is-gone = the-motor-struck-out-is-gone run count line node n e;
       every-other-motor-stays = every-other-motor-stays run count line node n e;
       its-place-is-given-back = omega (arith, one-place-is-given-back run count line node n e);
-    }
-
-frames : Frames
-frames =
-    record {
-      frame-exactly-when-the-rules-hold = frame-exactly-when;
-      written-again-it-gives-its-own-bytes = written-of-read;
-      written-exactly-when-in-range = λ buffer. written-exactly-when (length buffer);
-      frame-written-is-read = read-of-written;
-      the-answer-is-the-place-after-the-frame = λ buffer. writable-is-written (length buffer);
-      no-byte-before-the-frame-is-changed = untouched-before;
-      no-byte-behind-the-frame-is-changed = untouched-behind;
-      the-buffer-keeps-its-length = length-kept;
     }
 
 board : Board

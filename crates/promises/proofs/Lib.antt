@@ -1,3 +1,4 @@
+pub mod Frames
 pub mod GroupTable
 pub mod Events
 pub mod Held

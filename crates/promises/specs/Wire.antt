@@ -1,9 +1,15 @@
 -- The words of the promises for the bytes of a bundle (document 01, "From wire to frame"), in numbers alone. Places are
 -- counted from 0.
 -- Assumes nothing.
-use Prim.Native.Nat.{ℕ, _+_, _-_, _*_, _/_, _%_, _≤_}
+use Prim.Native.Nat.{ℕ, _+_, _-_, _*_, _/_, _%_, _≤_, _<_}
+use mathlib.Core.Path.{_≡_}
+use mathlib.Core.Logic.{_≢_}
 use mathlib.Core.List.{List, [], _∷_, map}
 use lib.ListN.{length, getD, take, drop}
+
+-- Every element is a byte.
+abbrev pub Bytes : List ℕ → Type 0
+Bytes b = (place : ℕ) → getD b place 0 < 256
 
 -- Every byte before the checksum is sent inverted.
 abbrev pub inverted : ℕ → ℕ
@@ -65,3 +71,12 @@ summed b = sum (take (length b - 2) b)
 
 abbrev pub stated : List ℕ → ℕ
 stated b = getD b (length b - 2) 0 * 256 + getD b (length b - 1) 0
+
+-- The rules of a frame.
+pub record FrameRules (b : List ℕ) : Type 0 where
+  pub from-11-bytes : 11 ≤ length b
+  pub to-31-bytes : length b ≤ 31
+  pub EXT-is-0 : ext b ≡ 0
+  pub LEN-is-the-count-of-bytes : len b ≡ length b
+  pub the-sum-is-as-stated : summed b ≡ stated b
+  pub MSG-is-not-FFh : message b ≢ 0xFF
