@@ -14,5 +14,4 @@ pub mod InPlace
 pub mod ReadBack
 pub mod WrittenBack
 pub mod FormLaws
-pub mod Figures
 pub mod Determined

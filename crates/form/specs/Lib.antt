@@ -3,4 +3,3 @@ pub mod Layout
 pub mod FormOne
 pub mod Reading
 pub mod Writing
-pub mod Figures

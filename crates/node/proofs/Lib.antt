@@ -7,5 +7,4 @@ pub mod Answered
 pub mod Laws
 pub mod Sent
 pub mod Histories
-pub mod Figures
 pub mod Determined

@@ -3,4 +3,3 @@ pub mod Turn
 pub mod Replies
 pub mod Frames
 pub mod Histories
-pub mod Figures

@@ -3,4 +3,3 @@ pub mod Units
 pub mod Nearest
 pub mod Position
 pub mod Share
-pub mod Figures
