@@ -52,6 +52,7 @@ use Rattle.promises.proofs.Effects.{effects}
 use Rattle.promises.proofs.Answers.{answers}
 use Rattle.promises.proofs.Held.{in-range}
 use Rattle.promises.proofs.Readings.{read-from-the-bytes, named}
+use Rattle.promises.proofs.EndToEnd.{end-to-end}
 use Rattle.promises.proofs.Fileable.{filed-exactly-when, struck-exactly-when}
 
 filed : (run : List Motor) (count line : ℕ) (b : List ℕ) (n : ℕ) → filedOf run count line b .answer ≡ Count n
@@ -145,4 +146,5 @@ kept =
       positions = positions;
       register = register;
       stored-form = stored-form;
+      end-to-end = end-to-end;
     }

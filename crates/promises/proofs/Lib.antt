@@ -16,6 +16,7 @@ pub mod LineReader
 pub mod RunAfterRun
 pub mod Fileable
 pub mod Readings
+pub mod EndToEnd
 pub mod Stored
 pub mod Demand1
 pub mod Demand2

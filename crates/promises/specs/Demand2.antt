@@ -15,6 +15,7 @@ pub mod Board
 pub mod Positions
 pub mod Register
 pub mod StoredForm
+pub mod EndToEnd
 
 pub record Demand2 : Type 1 where
   pub frames : Frames.Frames
@@ -23,3 +24,4 @@ pub record Demand2 : Type 1 where
   pub positions : Positions.Positions
   pub register : Register.Register
   pub stored-form : StoredForm.StoredForm
+  pub end-to-end : EndToEnd.EndToEnd
