@@ -109,7 +109,7 @@ pub with-ip-sixteen : (f : Favourites) (i : IpIndex) (x : Ip) → length (f .slo
 with-ip-sixteen f i x e =
     either (λ (g : Favourites). length (g .slots) ≡ 16) (isNumber i) (λ k. length-set (f .slots) (i .0 - 1) _ ∙ e) (λ k. e)
 
-shared-so-many : (n : ℕ) (travel : Pulse) (k : ℕ) → length (sharedTo n travel k) ≡ k
+pub shared-so-many : (n : ℕ) (travel : Pulse) (k : ℕ) → length (sharedTo n travel k) ≡ k
 unfolding sharedTo
 shared-so-many n travel zero = refl
 shared-so-many n travel (suc k) =

@@ -5,6 +5,5 @@ pub mod Sound
 pub mod PowerUp
 pub mod Refusals
 pub mod Determined
-pub mod Ranges
 pub mod GroupTable
 pub mod Fitting

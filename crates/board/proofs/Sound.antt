@@ -8,6 +8,8 @@ use borrow.Author.Tests.{le-leb, leb-true, ltb-false}
 use lib.Dec.{leb, ltb}
 use Rattle.meaning.specs.Cases.{both, and-so}
 use Rattle.meaning.specs.Choice.{either}
+use Rattle.meaning.specs.Tests.{both-of}
+use Rattle.frame.specs.Address.{aNodeID}
 use Rattle.travel.specs.declared.Pulse.{Pulse}
 use Rattle.board.specs.Settings.{inRange}
 use Rattle.board.specs.Drive.{atPulse, blockedBy, unblocked, poweredUp, driveWithin}
@@ -23,6 +25,14 @@ use Rattle.board.specs.declared.whole.Node.{Node}
 use Rattle.board.specs.declared.events.After.{After}
 use Rattle.board.proofs.Within.{at-pulse-within, blocked-within, unblocked-within, powered-up-within, none-within}
 use Rattle.board.proofs.StateRows.{by-settings}
+
+-- Settings that pass row 32 are in its ranges.
+pub settings-facts : (s : Settings) → inRange s ≡ true
+    → ((0x000001 ≤ s .id .0) × (s .id .0 ≤ 0xFFFEFF)) × ((1 ≤ s .kind) × ((s .kind ≤ 15) × (100 ≤ s .travel .0)))
+settings-facts s =
+    both-of (aNodeID (s .id) .holds) (leb 1 (s .kind) && (leb (s .kind) 15 && leb 100 (s .travel .0))) (aNodeID (s .id) .is-fact)
+    (both-of (leb 1 (s .kind)) (leb (s .kind) 15 && leb 100 (s .travel .0)) (leb-true 1 (s .kind))
+    (both-of (leb (s .kind) 15) (leb 100 (s .travel .0)) (leb-true (s .kind) 15) (leb-true 100 (s .travel .0))))
 
 -- What row 33 asks, part by part.
 pub record Sound (n : Node) : Type 0 where

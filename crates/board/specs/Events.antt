@@ -1,8 +1,7 @@
 -- Set-up and events (document 01, rows 30 to 33, "Events"). A refusal gives back the node as it was.
 -- Assumes nothing.
 use Prim.Native.Nat.{ℕ}
-use mathlib.Core.Path.{_≡_}
-use mathlib.Core.Bool.{Bool, true, false, _||_}
+use mathlib.Core.Bool.{Bool, _||_}
 use mathlib.Core.List.{List, [], _∷_}
 use lib.Dec.{eqb}
 use Rattle.meaning.specs.Tables.{Row, _when_, decide}
@@ -11,9 +10,8 @@ use Rattle.refusal.specs.declared.Refusal.{Refusal}
 use Rattle.travel.specs.declared.Pulse.{Pulse}
 use Rattle.board.specs.Settings.{inRange}
 use Rattle.board.specs.Drive.{atPulse, blockedBy, unblocked, poweredUp}
-use Rattle.board.specs.Lock.{noLock, overPowerUp}
+use Rattle.board.specs.Lock.{overPowerUp}
 use Rattle.board.specs.Node.{fresh, sound, withDrive, withLock}
-use Rattle.board.specs.declared.drive.Motion.the-variants.{Still}
 use Rattle.board.specs.declared.settings.Settings.{Settings}
 use Rattle.board.specs.declared.whole.Node.{Node}
 use Rattle.board.specs.declared.events.After.{After}
@@ -65,16 +63,3 @@ afterCleared n = decide (brokenTable n) (done (withDrive n (unblocked (n .drive)
 -- Row 33. Settings, position and favourites are kept.
 unfoldable pub afterPowerUp : Node → After
 afterPowerUp n = decide (brokenTable n) (done (withLock (withDrive n (poweredUp (n .drive))) (overPowerUp (n .lock))))
-
--- Power-up in the paper's words: the node before and after.
-pub record PoweredUp (n m : Node) : Type 0 where
-  pub settings-kept : m .settings ≡ n .settings
-  pub favourites-kept : m .favourites ≡ n .favourites
-  pub position-kept : m .drive .position ≡ n .drive .position
-  pub not-running : m .drive .motion ≡ Still
-  pub not-blocked : m .drive .blocked ≡ false
-  pub direction-unknown : m .drive .direction ≡ 0xFF
-  pub source-internal : m .drive .source ≡ 0
-  pub cause-unknown : m .drive .cause ≡ 0xFF
-  pub lock-kept : n .lock .saved ≡ true → m .lock ≡ n .lock
-  pub lock-dropped : n .lock .saved ≡ false → m .lock ≡ noLock

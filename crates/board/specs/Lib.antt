@@ -5,5 +5,4 @@ pub mod Lock
 pub mod Groups
 pub mod Node
 pub mod Events
-pub mod Ranges
 pub mod Typed

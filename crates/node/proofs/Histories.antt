@@ -10,11 +10,10 @@ use Rattle.meaning.specs.Choice.{either}
 use Rattle.frame.specs.Layout.{inverted, message, source, headerOf, dataOf, dataCount}
 use Rattle.board.specs.Groups.{Groups, noGroups}
 use Rattle.board.specs.Node.{fresh, sound}
-use Rattle.board.specs.Ranges.{SettingsInRange}
+use Rattle.board.specs.Settings.{inRange}
 use Rattle.board.specs.Typed.{Typed}
 use Rattle.board.specs.declared.settings.Settings.{Settings}
 use Rattle.board.specs.declared.whole.Node.{Node}
-use Rattle.board.proofs.Ranges.{settings-exactly-when}
 use Rattle.board.proofs.Sound.{fresh-is-sound, at-pulse-keeps-sound, blocked-keeps-sound, cleared-keeps-sound, power-up-keeps-sound}
 use Rattle.board.proofs.Fitting.{
   ChangeFits,
@@ -67,7 +66,7 @@ module _ (n : Node) (g : Groups) (b : List ℕ) (t : Typed n) where
       (λ e. record { node-fits = f .node-fits; change-fits = f .change-fits })
       (λ e. record { node-fits = f .node-fits; change-fits = f .change-fits })
 
-  turn-fits : TurnFits (turnOf n g b)
+  pub turn-fits : TurnFits (turnOf n g b)
   turn-fits =
       every-turn n g b TurnFits
       (λ q. record { node-fits = t; change-fits = tt })
@@ -93,9 +92,9 @@ a-history-keeps-what-fits w [] f = f
 a-history-keeps-what-fits w (i ∷ later) f = a-history-keeps-what-fits (after w i) later (after-fits w i f)
 
 -- ---- from set-up on
-module _ (s : Settings) (r : SettingsInRange s) (h : s .travel .0 ≤ 65535) (l : List Input) where
+module _ (s : Settings) (r : inRange s ≡ true) (h : s .travel .0 ≤ 65535) (l : List Input) where
   pub sound-from-set-up : sound (lived (begun s) l .node) ≡ true
-  sound-from-set-up = a-history-keeps-sound (begun s) l (fresh-is-sound s (settings-exactly-when s .0 r))
+  sound-from-set-up = a-history-keeps-sound (begun s) l (fresh-is-sound s r)
 
   pub fits-from-set-up : Fits (lived (begun s) l)
   fits-from-set-up = a-history-keeps-what-fits (begun s) l (record { node-fits = fresh-is-typed s (omega arith); table-fits = no-groups-typed })

@@ -23,8 +23,7 @@ use Rattle.board.specs.declared.groups.Change.{Change}
 use Rattle.board.specs.declared.groups.Change.the-variants.{Keep, Put}
 use Rattle.board.specs.declared.settings.Settings.{Settings}
 use Rattle.board.specs.declared.whole.Node.{Node}
-use Rattle.board.proofs.Ranges.{settings-exactly-when}
-use Rattle.board.proofs.Sound.{parts-of}
+use Rattle.board.proofs.Sound.{settings-facts, parts-of}
 use Rattle.messages.specs.Outcome.{acts, refuses}
 use Rattle.messages.specs.Table.{Get}
 use Rattle.messages.specs.declared.code.Code.{Code}
@@ -126,8 +125,8 @@ asker-type b = omega arith
 -- An own address and type that are in range fit a frame.
 ranges : (c : Settings) → inRange c ≡ true → (c .id .0 ≤ 0xFFFFFF) × (c .kind ≤ 15)
 ranges c e =
-    let r = settings-exactly-when c .1 e in
-    (omega (arith, r .NodeID-to-FFFEFFh), r .type-to-15)
+    let (id, (from-1, (to-15, from-100))) = settings-facts c e in
+    (omega (arith, id .1), to-15)
 
 -- Whatever is said is a reply message, which is below FFh.
 abbrev pub SaysAReply : Outcome → Type 0

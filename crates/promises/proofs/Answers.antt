@@ -9,7 +9,6 @@ use lib.ListN.{length, getD}
 use Rattle.meaning.specs.Bytes.{Bytes}
 use Rattle.frame.specs.Layout.{message, source, dataOf}
 use Rattle.board.specs.Groups.{Groups}
-use Rattle.board.specs.Typed.{Typed, TypedTable}
 use Rattle.board.specs.declared.favourites.Ip.{Ip}
 use Rattle.board.specs.declared.favourites.Ip.the-variants.{Unset, At}
 use Rattle.board.specs.declared.whole.Node.{Node}
@@ -22,11 +21,14 @@ use Rattle.messages.specs.Addresses.{addressRow}
 use Rattle.messages.proofs.Messages.{at-0C, at-0E, at-26, at-40}
 use Rattle.messages.proofs.Contents.{content-is, all-bytes}
 use Rattle.node.specs.Frames.{turnOf}
+use Rattle.promises.specs.Typed.{Typed, TypedTable}
 use Rattle.promises.specs.BoardParts.{ipOf}
 use Rattle.promises.specs.Demand2.Codes.{Accepted, ipRows, groupRows}
 use Rattle.promises.specs.Demand2.Turns.{Posted}
 use Rattle.promises.specs.Demand2.Effects.{Arrives}
 use Rattle.promises.specs.Demand2.Answers.{oneIf, Answers}
+use Rattle.promises.proofs.BoardInRange.{is-sound}
+use Rattle.promises.proofs.Typed.{for-its-laws}
 use Rattle.promises.proofs.Turns.{cameTo, posted}
 use Rattle.promises.proofs.Codes.{ip-at-is, accepted-index, ip-by, group-by}
 
@@ -42,7 +44,7 @@ module _ (n : Node) (g : Groups) (b : List ℕ) (a : Arrives n g b) (t : Typed n
   told : (m : ℕ) (d : List ℕ) → cameTo n g b a ≡ posts n m d → m < 255 → length d ≤ 20 → Posted n b (turnOf n g b) m d
   told m d e named few =
       posted n g b a m d e named few
-      (subst Bytes (ap contentOf e ∙ content-is d) (all-bytes n (a .is-sound) t g u (source b) (message b) content))
+      (subst Bytes (ap contentOf e ∙ content-is d) (all-bytes n (is-sound n (a .in-range)) (for-its-laws n t) g u (source b) (message b) content))
 
   -- 25h
   ip-told : message b ≡ 0x25 → Accepted (ipRows content) → (x : Ip) → ipOf (n .favourites) (byteAt content 0) ≡ x

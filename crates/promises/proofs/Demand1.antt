@@ -24,7 +24,7 @@ use Rattle.line.specs.declared.reader.Stepped.{Stepped}
 use Rattle.line.specs.declared.reader.Ran.{Ran}
 use Rattle.line.proofs.Steps.{step-broken, close-broken, run-broken, run-unequal, run-past-end}
 use Rattle.board.specs.Settings.{inRange}
-use Rattle.board.specs.Node.{sound, fresh as freshNode}
+use Rattle.board.specs.Node.{fresh as freshNode}
 use Rattle.board.specs.Events.{setUp, afterPulse, afterBlocked, afterCleared, afterPowerUp, refusedBy}
 use Rattle.board.specs.declared.settings.Settings.{Settings}
 use Rattle.board.specs.declared.whole.Node.{Node}
@@ -37,12 +37,10 @@ use Rattle.board.proofs.Refusals.{
   refused-clearing-changes-nothing,
   refused-power-up-changes-nothing,
 }
-use Rattle.board.specs.Groups.{Groups}
 use Rattle.node.specs.declared.turn.Answer as turn
 use Rattle.node.specs.Frames.{turnOf}
 use Rattle.meaning.specs.Membership.{isIn, IsOneOf, is-in}
 use Rattle.meaning.specs.Cases.{zero-is-one}
-use Rattle.node.specs.Replies.{Untouched}
 use Rattle.node.proofs.Laws.{refused-by-a-number-changes-nothing}
 use Rattle.motors.specs.Filing.{filedOf, struckOf}
 use Rattle.motors.specs.declared.answer.Answer as motors
@@ -53,8 +51,12 @@ use Rattle.form.specs.Writing.{writtenOf}
 use Rattle.form.specs.declared.writing.Written.{Written}
 use Rattle.form.proofs.FormLaws.{a-refused-form-leaves-the-run-as-it-was, a-refused-writing-changes-no-byte}
 use Rattle.promises.specs.Numbers.{writeNumber, lineNumber, eventNumber, turnNumber, registerNumber, formNumber, noFrame}
+use Rattle.promises.specs.BoardInRange.{BoardInRange}
+use Rattle.promises.specs.Groups.{Groups}
+use Rattle.promises.specs.Reply.{Untouched}
 use Rattle.promises.specs.Demand1.{Demand1}
 use Rattle.promises.proofs.ReaderInRange.{is-sound, is-broken}
+use Rattle.promises.proofs.BoardInRange as board
 use Rattle.promises.proofs.Rows.{rows}
 
 -- ---- a number that is not 0 is a refusal's
@@ -156,11 +158,11 @@ run-drops r bytes silences place =
     from-place bytes place (runOf r (drop place bytes) (drop place silences) place) (run-stops r (drop place bytes) (drop place silences) place)
 
 -- ---- the board
-set-up : (s : Settings) → eventNumber (setUp s .verdict) ≢ 0 → sound (setUp s .node) ≡ false
+set-up : (s : Settings) → eventNumber (setUp s .verdict) ≢ 0 → ¬ BoardInRange (setUp s .node)
 unfolding setUp
 set-up s =
-    either (λ (a : After). eventNumber (a .verdict) ≢ 0 → sound (a .node) ≡ false) (not (inRange s))
-    (λ t k. by-settings (freshNode s) (not-true _ t))
+    either (λ (a : After). eventNumber (a .verdict) ≢ 0 → ¬ BoardInRange (a .node)) (not (inRange s))
+    (λ t k r. false≢true (sym (by-settings (freshNode s) (not-true _ t)) ∙ board.is-sound (freshNode s) r))
     (λ t k. absurd (k refl))
 
 node-of : (a : After) (n : Node) (q : Refusal) → a ≡ refusedBy n q → a .node ≡ n
@@ -170,7 +172,7 @@ on-frame : (n : Node) (g : Groups) (b : List ℕ) → turnNumber (turnOf n g b .
 on-frame n g b k =
     of-turn (turnOf n g b .answer) k λ q e.
     rw (refused-by-a-number-changes-nothing n g b q e)
-    (record { unchanged = record { node-kept = refl; table-kept = refl }; not-answered = λ e. zero-is-one (cc); nothing-said = refl })
+    (record { node-kept = refl; table-kept = refl; not-answered = λ e. zero-is-one (cc); nothing-said = refl })
 
 pub kept : Demand1
 kept =

@@ -2,20 +2,18 @@
 -- Assumes nothing.
 use Prim.Native.Nat.{ℕ}
 use native.Mathlib.Omega.{arith}
-use mathlib.Core.Path.{_≡_}
+use mathlib.Core.Path.{_≡_, ap}
 use mathlib.Core.List.{List}
-use Rattle.travel.specs.Position.{percent-nearest, pulse-nearest, there-and-back}
-use Rattle.board.proofs.Ranges.{sound-exactly-when}
+use Rattle.travel.specs.Nearest as travel
+use Rattle.travel.specs.Position.{percent-nearest, percent-down-limit, pulse-nearest, pulse-down-limit, there-and-back}
+use Rattle.travel.specs.Share.{share-to-n, share-above-n}
+use Rattle.travel.specs.declared.Percent.{Percent}
+use Rattle.travel.specs.declared.Pulse.{Pulse}
 use Rattle.node.proofs.Laws.{
-  meant-is-carried-out,
-  not-meant-is-silent,
   a-reply-message-is-never-answered,
-  every-state-passes-row-33-again,
   an-entry-put-is-one-of-the-sixteen,
-  every-reply-is-a-frame-to-the-asker,
 }
-use Rattle.node.proofs.Sent.{every-message-sent-is-a-reply}
-use Rattle.node.proofs.Histories.{sound-from-set-up, every-message-sent-since-set-up-is-a-reply, every-reply-since-set-up-is-a-frame-to-the-asker}
+use Rattle.node.specs.Frames.{turnOf}
 use Rattle.motors.specs.Filing.{filedOf, struckOf}
 use Rattle.motors.specs.declared.motor.Motor.{Motor}
 use Rattle.motors.specs.declared.answer.Answer.the-variants.{Count}
@@ -36,7 +34,7 @@ use Rattle.form.proofs.FormLaws.{
   the-count-is-the-one-stored,
 }
 use Rattle.promises.specs.Demand2.Board.{Board}
-use Rattle.promises.specs.Demand2.Positions.{Positions}
+use Rattle.promises.specs.Demand2.Positions.{IsNearest, Positions}
 use Rattle.promises.specs.Demand2.Register.{Filed, StruckOut, Register}
 use Rattle.promises.specs.Demand2.StoredForm.{StoredForm}
 use Rattle.promises.specs.Demand2.{Demand2}
@@ -44,7 +42,14 @@ use Rattle.promises.proofs.LineReader.{line-reader}
 use Rattle.promises.proofs.RegisterInRange.{found-exactly-when}
 use Rattle.promises.proofs.RegisterInRange.{sound-exactly-when as row-19-exactly-when}
 use Rattle.promises.proofs.Stored.{of-its-length, behind, buffer-length}
-use Rattle.promises.proofs.Frames.{frames}
+use Rattle.promises.proofs.Frames.{rules-exactly-when, frames}
+use Rattle.promises.proofs.BoardInRange.{settings-exactly-when, sound-exactly-when}
+use Rattle.promises.proofs.Status.{status}
+use Rattle.promises.proofs.Meant.{passed-over}
+use Rattle.promises.proofs.Reply.{untouched}
+use Rattle.promises.proofs.SinceSetUp.{turned-in-range, sends-a-reply, replies-properly, since-set-up}
+use Rattle.promises.proofs.Favourites.{sixteen-ips}
+use Rattle.promises.proofs.Fitting.{fitting}
 use Rattle.promises.proofs.GroupTable.{group-table}
 use Rattle.promises.proofs.Events.{events}
 use Rattle.promises.proofs.Codes.{codes}
@@ -79,34 +84,38 @@ struck-out run count line node n e =
 board : Board
 board =
     record {
+      in-range-exactly-when-row-32-does-not-apply = settings-exactly-when;
       sound-exactly-when-in-range = sound-exactly-when;
-      meant-is-carried-out-by-the-table = meant-is-carried-out;
-      not-meant-does-nothing = not-meant-is-silent;
-      board-once-sound-always-sound = λ n g b s. every-state-passes-row-33-again n g b s .still-sound;
+      status = status;
+      not-meant-does-nothing = λ n g b s f. passed-over n g b s (rules-exactly-when b .0 f);
+      board-once-sound-always-sound = turned-in-range;
       only-the-sixteen-entries-are-put = an-entry-put-is-one-of-the-sixteen;
-      a-reply-gets-no-reply = a-reply-message-is-never-answered;
-      all-that-is-sent-is-a-reply = every-message-sent-is-a-reply;
-      every-reply-is-a-frame-to-the-asker = every-reply-is-a-frame-to-the-asker;
-      since-set-up =
-          λ s r h history.
-          record {
-            it-is-sound = sound-from-set-up s r h history;
-            all-that-it-sends-is-a-reply = every-message-sent-since-set-up-is-a-reply s r h history;
-            every-reply-of-it-is-a-frame-to-the-asker = every-reply-since-set-up-is-a-frame-to-the-asker s r h history;
-          };
+      a-reply-gets-no-reply = λ n g b i. untouched n (turnOf n g b) (a-reply-message-is-never-answered n g b i);
+      all-that-is-sent-is-a-reply = sends-a-reply;
+      every-reply-is-a-frame-to-the-asker = replies-properly;
+      since-set-up = since-set-up;
       group-table = group-table;
       events = events;
       which-code-refuses-a-message = codes;
+      sixteen-IPs = sixteen-ips;
+      fitting = fitting;
       what-a-message-does = effects;
       what-a-GET-is-answered = answers;
     }
 
+nearest : {a b k : ℕ} → travel.IsNearest a b k → IsNearest a b k
+nearest is = record { from = is .from; below = is .below }
+
 positions : Positions
 positions =
     record {
-      percent-is-the-nearest-whole = percent-nearest;
-      pulse-is-the-nearest-whole = pulse-nearest;
+      percent-is-the-nearest-whole = λ p travel positive within. nearest (percent-nearest p travel positive within);
+      from-the-travel-on-100-percent = λ p travel h. ap (λ (k : Percent). k .0) (percent-down-limit p travel h);
+      pulse-is-the-nearest-whole = λ k travel h. nearest (pulse-nearest k travel h);
+      from-100-percent-on-the-travel = λ k travel h. ap (λ (p : Pulse). p .0) (pulse-down-limit k travel h);
       percent-to-pulse-and-back = there-and-back;
+      a-share-is-rounded-down = λ i n h. ap (λ (k : Percent). k .0) (share-to-n i n h);
+      beyond-n-it-is-100-percent = λ i n h. ap (λ (k : Percent). k .0) (share-above-n i n h);
     }
 
 register : Register

@@ -1,24 +1,22 @@
 -- What an accepted message does to the board, row by row of the message table.
 -- Assumes nothing.
-use Prim.Native.Nat.{ℕ, zero, suc, _+_, _-_, _≤_, _<_}
+use Prim.Native.Nat.{ℕ, _+_, _-_, _≤_, _<_}
 use native.Mathlib.Omega.{arith}
 use mathlib.Core.Path.{_≡_, refl, _∙_, sym, ap, subst}
 use mathlib.Core.Logic.{_≢_, inl, inr}
 use mathlib.Core.Bool.{true, false, false≢true}
-use mathlib.Core.List.{List, [], _∷_, _++_}
-use borrow.Author.Tests.{le-leb, lt-leb, le-ltb, lt-ltb, ltb-true, ltb-false, eq-eqb, ne-eqb}
-use lib.Dec.{ltb}
-use lib.ListN.{length, getD, length-set, length-append, List·getD-append}
-use lib.Seq.{getD-set-same, getD-set-other, getD-append-seam}
+use mathlib.Core.List.{List}
+use borrow.Author.Tests.{le-leb, le-ltb, lt-ltb, eq-eqb, ne-eqb}
+use lib.ListN.{length, length-set}
+use lib.Seq.{getD-set-same, getD-set-other}
 use Rattle.meaning.specs.Cases.{by-test}
 use Rattle.frame.specs.Layout.{message, source, dataOf}
 use Rattle.frame.specs.Words.{wordAt}
 use Rattle.travel.specs.Units.{percent, ip}
 use Rattle.travel.specs.Position.{pulseOfPercent}
-use Rattle.travel.specs.Share.{share-to-n}
 use Rattle.travel.specs.declared.Pulse.{Pulse}
 use Rattle.board.specs.Drive.{halted, haltedFrom, movedTo}
-use Rattle.board.specs.Favourites.{isNumber, withIp, sharedIp, sharedTo, sharedOut, pulseOf}
+use Rattle.board.specs.Favourites.{isNumber, withIp, sharedOut, pulseOf}
 use Rattle.board.specs.Groups.{Groups}
 use Rattle.board.specs.Lock.{locked}
 use Rattle.board.specs.Node.{withDrive, withFavourites, withLock}
@@ -40,10 +38,11 @@ use Rattle.messages.specs.declared.favourites.Order.{Order}
 use Rattle.messages.specs.declared.favourites.Order.the-variants.{Share}
 use Rattle.messages.proofs.Orders.{sharing, deleting, here, percent-at}
 use Rattle.node.specs.Frames.{turnOf}
-use Rattle.promises.specs.BoardParts.{slot, drive, ipOf}
+use Rattle.promises.specs.BoardParts.{slot, drive}
 use Rattle.promises.specs.Demand2.Codes.{Accepted, IsAMove, SetsAnIp, stopRows, moveRows, setIpRows, lockRows}
 use Rattle.promises.specs.Demand2.Turns.{CarriedOut}
 use Rattle.promises.specs.Demand2.Effects.{Arrives, AimedAt, down, up, to-IP, to-percent, OneIp, SharedOut, Effects}
+use Rattle.promises.proofs.Favourites.{sixteen-ips}
 use Rattle.promises.proofs.Turns.{carried-out}
 use Rattle.promises.proofs.Codes.{
   ip-at-is,
@@ -131,47 +130,16 @@ one-ip n sixteen i x l u =
     slots : List Slot
     slots = n .favourites .slots
 
--- The slots of IPs that share the travel, one by one.
-shared-length : (count : ℕ) (travel : Pulse) (k : ℕ) → length (sharedTo count travel k) ≡ k
-unfolding sharedTo
-shared-length count travel zero = refl
-shared-length count travel (suc k) =
-    let e = shared-length count travel k in
-    length-append (sharedTo count travel k) _ ∙ omega arith
-
-shared-slot : (count : ℕ) (travel : Pulse) (k i : ℕ) → i < k
-    → getD (sharedTo count travel k) i (slot Unset) ≡ slot (sharedIp count travel (ip (suc i)))
-unfolding sharedTo
-shared-slot count travel zero i h = absurd (omega arith)
-shared-slot count travel (suc k) i h =
-    by-test (ltb i k)
-    (λ t.
-    let within = ltb-true i k t in
-    List·getD-append (sharedTo count travel k) (slot (sharedIp count travel (ip (suc k))) ∷ []) (slot Unset) i
-    (omega (arith, shared-length count travel k, within))
-    ∙ shared-slot count travel k i within)
-    (λ t.
-    let last : i ≡ k = omega (arith, h, ltb-false i k t) in
-    rw last
-    (ap (λ (at : ℕ). getD (sharedTo count travel k ++ slot (sharedIp count travel (ip (suc k))) ∷ []) at (slot Unset)) (sym (shared-length count travel k))
-    ∙ getD-append-seam (sharedTo count travel k) (slot (sharedIp count travel (ip (suc k)))) [] (slot Unset)))
-
-shared-ip : (count : ℕ) (travel : Pulse) (i : ℕ) → 1 ≤ i → i ≤ 16 → ipOf (sharedOut count travel) i ≡ sharedIp count travel (ip i)
-shared-ip count travel i l u =
-    let same : suc (i - 1) ≡ i = omega (arith, l) in
-    ap (λ (s : Slot). s .ip) (shared-slot count travel 16 (i - 1) (omega (arith, l, u)))
-    ∙ ap (λ (k : ℕ). sharedIp count travel (ip k)) same
-
+-- IPs that share the travel.
 shared-out : (n : Node) (count : ℕ) → count ≤ 16 → SharedOut n (withFavourites n (sharedOut count (n .settings .travel))) count
 shared-out n count few =
+    let travel = n .settings .travel in
+    let sixteen = sixteen-ips .shared-out-they-are-sixteen count travel in
     record {
-      IPs-alone = record { same-settings = refl; same-motor = refl; same-lock = refl; sixteen-again = shared-length count travel 16 };
-      to-the-count = λ i l u. shared-ip count travel i l (omega (arith, u, few)) ∙ rw (le-leb i count u, share-to-n (ip i) count u);
-      the-rest = λ i over u. shared-ip count travel i (omega (arith, over)) u ∙ rw (lt-leb i count over);
+      IPs-alone = record { same-settings = refl; same-motor = refl; same-lock = refl; sixteen-again = sixteen };
+      to-the-count = λ i l u. sixteen-ips .IPs-to-n-share-the-travel count travel i l u (omega (arith, u, few));
+      the-rest = sixteen-ips .the-rest-are-unset count travel;
     }
-  where
-    travel : Pulse
-    travel = n .settings .travel
 
 -- ---- each message
 module _ (n : Node) (g : Groups) (b : List ℕ) (a : Arrives n g b) where

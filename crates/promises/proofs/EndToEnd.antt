@@ -3,27 +3,25 @@
 use Prim.Native.Nat.{ℕ, suc, _+_, _*_, _/_, _%_, _≤_, _<_}
 use native.Mathlib.Omega.{arith}
 use mathlib.Core.Path.{_≡_, refl, _∙_, sym, ap}
-use mathlib.Core.Logic.{_≢_, _⊎_, inl, inr}
+use mathlib.Core.Logic.{_⊎_, inl, inr}
 use mathlib.Core.List.{List, [], _∷_}
-use lib.ListN.{length, getD, take, length-take}
+use lib.ListN.{length, getD, length-take}
 use Rattle.meaning.specs.Choice.{either}
 use Rattle.frame.proofs.Frames.{frame-exactly-when}
 use Rattle.travel.specs.Position.{percentOfPulse, percent-at-most-100}
 use Rattle.travel.specs.declared.Pulse.{Pulse}
 use Rattle.board.specs.Favourites.{isAt, firstAt, reportedIp}
 use Rattle.board.specs.Groups.{Groups}
-use Rattle.board.specs.Typed.{Typed, TypedTable}
 use Rattle.board.specs.declared.favourites.Slot.{Slot}
 use Rattle.board.specs.declared.whole.Node.{Node}
-use Rattle.board.proofs.Ranges.{sound-exactly-when}
 use Rattle.node.specs.Frames.{turnOf}
 use Rattle.motors.specs.Filing.{filedOf}
 use Rattle.motors.specs.declared.motor.Motor.{Motor}
-use Rattle.promises.specs.Wire.{raw, message, source, dataOf, dataCount}
+use Rattle.promises.specs.Wire.{raw, message, dataCount}
+use Rattle.promises.specs.Typed.{Typed, TypedTable}
 use Rattle.promises.specs.Reply.{sent, IsReply}
 use Rattle.promises.specs.RegisterInRange.{RegisterInRange}
 use Rattle.promises.specs.Fileable.{Fileable}
-use Rattle.promises.specs.Demand2.Turns.{Posted}
 use Rattle.promises.specs.Demand2.Effects.{Arrives}
 use Rattle.promises.specs.Demand2.EndToEnd.{FoundAsTold, EndToEnd}
 use Rattle.promises.proofs.Answers.{answers}
@@ -65,7 +63,7 @@ module _ (n : Node) (g : Groups) (b : List ℕ) (a : Arrives n g b) (t : Typed n
   module _ (run : List Motor) (count line : ℕ) (r : RegisterInRange run count) (place : count < 256) (few : line ≤ 3) where
     fileable : Fileable run count line told
     fileable =
-        let settings = sound-exactly-when n .1 (a .is-sound) .settings-in-range in
+        let settings = a .in-range .settings-in-range in
         record {
           sound-register = r;
           is-frame = frame-exactly-when told .1 (is-reply .is-a-frame);

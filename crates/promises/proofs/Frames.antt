@@ -32,7 +32,7 @@ use Rattle.promises.specs.Numbers.{readNumber, writeNumber}
 use Rattle.promises.specs.Demand2.Frames.{FrameSays, CanBeWritten, AddressAt, FrameAt, Frames}
 
 -- ---- what is read
-to-rules : {b : List ℕ} → IsFrame b → FrameRules b
+pub to-rules : {b : List ℕ} → IsFrame b → FrameRules b
 to-rules f =
     record {
       from-11-bytes = f .from-11-bytes;
@@ -43,7 +43,7 @@ to-rules f =
       MSG-is-not-FFh = f .has-a-message;
     }
 
-from-rules : {b : List ℕ} → FrameRules b → IsFrame b
+pub from-rules : {b : List ℕ} → FrameRules b → IsFrame b
 from-rules f =
     record {
       from-11-bytes = f .from-11-bytes;
@@ -54,7 +54,7 @@ from-rules f =
       has-a-message = f .MSG-is-not-FFh;
     }
 
-rules-exactly-when : (b : List ℕ) → FrameRules b ↔ (readNumber (readingOf b) ≡ 0)
+pub rules-exactly-when : (b : List ℕ) → FrameRules b ↔ (readNumber (readingOf b) ≡ 0)
 rules-exactly-when b = (λ f. frame-exactly-when b .0 (from-rules f), λ e. to-rules (frame-exactly-when b .1 e))
 
 says : (b : List ℕ) → FrameSays b (headerOf b) (dataCount b)

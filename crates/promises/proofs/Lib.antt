@@ -1,10 +1,16 @@
 pub mod Frames
+pub mod BoardInRange
+pub mod Typed
+pub mod Reply
+pub mod Meant
+pub mod Favourites
 pub mod GroupTable
 pub mod Events
+pub mod Fitting
+pub mod SinceSetUp
 pub mod Held
 pub mod RegisterInRange
 pub mod First
-pub mod Reply
 pub mod Turns
 pub mod Codes
 pub mod Effects
@@ -14,6 +20,7 @@ pub mod ReaderInRange
 pub mod Rows
 pub mod LineReader
 pub mod RunAfterRun
+pub mod Status
 pub mod Fileable
 pub mod Readings
 pub mod EndToEnd

@@ -30,10 +30,6 @@ use Rattle.board.specs.Events.{setUp, afterPulse, afterBlocked, afterCleared, a
 use Rattle.board.specs.declared.settings.Settings.{Settings}
 use Rattle.board.specs.declared.whole.Node.{Node}
 use Rattle.board.specs.declared.events.After.{After}
-use Rattle.board.specs.Ranges.{SettingsInRange, BoardInRange}
-use Rattle.board.proofs.Ranges.{settings-exactly-when}
-use Rattle.board.proofs.Ranges as board
-use Rattle.board.specs.Groups.{Groups}
 use Rattle.messages.specs.declared.outcome.Outcome.{Outcome}
 use Rattle.node.specs.Replies.{isSaid, answered}
 use Rattle.node.specs.declared.turn.Turn.{Turn}
@@ -54,7 +50,11 @@ use Rattle.motors.specs.declared.report.Report.{Report}
 use Rattle.motors.specs.declared.report.Report.the-variants.{Seen}
 use Rattle.promises.specs.ReaderInRange.{ReaderInRange}
 use Rattle.promises.proofs.ReaderInRange.{in-range-exactly-when, is-sound, stays-in-range}
+use Rattle.promises.specs.BoardInRange.{SettingsInRange, BoardInRange}
+use Rattle.promises.specs.Groups.{Groups}
 use Rattle.promises.specs.RegisterInRange.{RegisterInRange}
+use Rattle.promises.proofs.BoardInRange.{settings-exactly-when}
+use Rattle.promises.proofs.BoardInRange as board
 use Rattle.promises.proofs.RegisterInRange.{sound-exactly-when}
 use Rattle.promises.proofs.ReportBytes.{bad-by-its-bytes}
 use Rattle.motors.proofs.Full.{beyond-exactly-when}

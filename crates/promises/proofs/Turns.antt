@@ -12,11 +12,9 @@ use Rattle.meaning.specs.Choice.{if_then_else_, either}
 use Rattle.meaning.specs.Tables as tables
 use Rattle.frame.specs.Layout.{message, source, headerOf, dataOf}
 use Rattle.board.specs.Groups.{Groups}
-use Rattle.board.specs.Ranges.{BoardInRange}
 use Rattle.board.specs.declared.groups.Change.{Change}
 use Rattle.board.specs.declared.groups.Change.the-variants.{Keep}
 use Rattle.board.specs.declared.whole.Node.{Node}
-use Rattle.board.proofs.Ranges.{sound-exactly-when}
 use Rattle.messages.specs.Code.{codeOf}
 use Rattle.messages.specs.Outcome.{acts, posts, refuses, refusals, refusing}
 use Rattle.messages.specs.Table.{outcomeOf}
@@ -30,7 +28,6 @@ use Rattle.node.specs.Frames.{turnOf}
 use Rattle.node.specs.Replies.{replyTo, answered}
 use Rattle.node.specs.Turn.{silent, replied}
 use Rattle.node.specs.declared.turn.Turn.{Turn}
-use Rattle.node.proofs.Laws.{meant-is-carried-out}
 use Rattle.promises.specs.Wire.{raw}
 use Rattle.promises.specs.Reply.{IsReply}
 use Rattle.promises.specs.Rows.{Row, FirstOf}
@@ -38,6 +35,8 @@ use Rattle.promises.specs.Demand2.Turns.{SaidIfAsked, CarriedOut, Refuse
 use Rattle.promises.specs.Demand2.Codes.{FirstCode, Accepted}
 use Rattle.promises.specs.Demand2.Effects.{Arrives}
 use Rattle.promises.proofs.First.{numbered, first, Alike, same-number, one-number}
+use Rattle.promises.proofs.Frames.{rules-exactly-when}
+use Rattle.promises.proofs.Meant.{carried-out as meant-is-carried-out}
 use Rattle.promises.proofs.Reply.{a-reply-by-its-bytes}
 
 -- The code that an outcome refuses by, 0 where it does not.
@@ -62,11 +61,8 @@ module _ (n : Node) (g : Groups) (b : List ℕ) (a : Arrives n g b) where
   abbrev pub cameTo : Outcome
   cameTo = outcomeOf n g (source b) (message b) (dataOf b)
 
-  in-range : BoardInRange n
-  in-range = sound-exactly-when n .1 (a .is-sound)
-
   turned : (o : Outcome) → cameTo ≡ o → turnOf n g b ≡ answered (n .settings) (headerOf b) o
-  turned o e = meant-is-carried-out n g b (a .is-sound) (a .is-frame) (a .is-meant) ∙ ap (answered (n .settings) (headerOf b)) e
+  turned o e = meant-is-carried-out n g b (a .in-range) (rules-exactly-when b .0 (a .is-frame)) (a .is-meant) ∙ ap (answered (n .settings) (headerOf b)) e
 
   -- An answer that goes out only with the ACK bit.
   module _ (after : Node) (change : Change) (m : ℕ) (content : List ℕ) (named : m < 255) (few : length content ≤ 20) (bytes : Bytes content) where
@@ -81,7 +77,7 @@ module _ (n : Node) (g : Groups) (b : List ℕ) (a : Arrives n g b) where
           (
             refl,
             record {
-              asked = λ h. (refl, a-reply-by-its-bytes n b m content in-range named few bytes);
+              asked = λ h. (refl, a-reply-by-its-bytes n b m content (a .in-range) named few bytes);
               not-asked = λ no. absurd (no (leb-true 128 (raw b 1) e));
             },
           ),
@@ -147,4 +143,4 @@ module _ (n : Node) (g : Groups) (b : List ℕ) (a : Arrives n g b) where
     where
       says : IsReply n b m content (answered (n .settings) (headerOf b) (posts n m content) .reply)
       says = subst (λ (l : List ℕ). IsReply n b m content (replyTo (n .settings) (headerOf b) m l)) (sym (content-is content))
-          (a-reply-by-its-bytes n b m content in-range named few bytes)
+          (a-reply-by-its-bytes n b m content (a .in-range) named few bytes)

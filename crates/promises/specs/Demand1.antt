@@ -17,14 +17,11 @@ use Rattle.frame.specs.declared.header.Header.{Header}
 use Rattle.line.specs.Reader.{stepOf, closeOf, ranOf}
 use Rattle.line.specs.declared.reader.Reader.{Reader}
 use Rattle.travel.specs.declared.Pulse.{Pulse}
-use Rattle.board.specs.Node.{sound}
 use Rattle.board.specs.Events.{setUp, afterPulse, afterBlocked, afterCleared, afterPowerUp}
 use Rattle.board.specs.declared.settings.Settings.{Settings}
 use Rattle.board.specs.declared.whole.Node.{Node}
-use Rattle.board.specs.Groups.{Groups}
 use Rattle.node.specs.Frames.{turnOf}
 use Rattle.meaning.specs.Membership.{IsOneOf}
-use Rattle.node.specs.Replies.{Untouched}
 use Rattle.motors.specs.Filing.{filedOf, struckOf}
 use Rattle.motors.specs.declared.motor.Motor.{Motor}
 use Rattle.form.specs.Reading.{readOf}
@@ -39,6 +36,9 @@ use Rattle.promises.specs.Numbers.{
   noFrame,
 }
 use Rattle.promises.specs.ReaderInRange.{ReaderInRange, zeros31, noneOpen, begunWith, withRefusal}
+use Rattle.promises.specs.BoardInRange.{BoardInRange}
+use Rattle.promises.specs.Groups.{Groups}
+use Rattle.promises.specs.Reply.{Untouched}
 use Rattle.promises.specs.Rows.{Rows}
 
 pub record Demand1 : Type 1 where
@@ -77,7 +77,7 @@ pub record Demand1 : Type 1 where
       × (ranOf r bytes silences place .stepped .bundle ≡ zeros31)
   -- the board: no node that any later call accepts is made, or the very node is kept, the group table too, and there is
   -- no reply
-  pub set-up : (s : Settings) → eventNumber (setUp s .verdict) ≢ 0 → sound (setUp s .node) ≡ false
+  pub set-up : (s : Settings) → eventNumber (setUp s .verdict) ≢ 0 → ¬ BoardInRange (setUp s .node)
   pub at-pulse : (n : Node) (p : Pulse) → eventNumber (afterPulse n p .verdict) ≢ 0 → afterPulse n p .node ≡ n
   pub blocked : (n : Node) (cause : ℕ) → eventNumber (afterBlocked n cause .verdict) ≢ 0
       → afterBlocked n cause .node ≡ n

@@ -9,6 +9,8 @@ pub mod LineReader
 pub mod Events
 pub mod Turns
 pub mod Codes
+pub mod Favourites
+pub mod Fitting
 pub mod Effects
 pub mod Answers
 pub mod Board

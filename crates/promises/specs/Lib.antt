@@ -1,11 +1,15 @@
--- What the customer is promised. Read Demand1, Demand2, Demand3, Figures, Determined and Contracts; Numbers, Rows,
--- ReaderInRange, RegisterInRange and Fileable say words that the demands use.
+-- What the customer is promised. Read Demand1, Demand2, Demand3, Figures, Determined and Contracts; the other files say
+-- words that the demands use.
 -- Signs: `→` then, `×` and, `⊎` or, `¬` not, `↔` exactly when, `≡` is, `≢` is not, `x .f` the field f of x, `(x : T) →`
 -- for every x, `(x : T) ×` for some x.
 -- `Contracts` says that the contracts in the source are the meanings that the demands speak of, function by function:
 -- `readingOf`, `stepOf`, `turnOf` and so on.
 pub mod Wire
 pub mod BoardParts
+pub mod BoardInRange
+pub mod Groups
+pub mod Meant
+pub mod Typed
 pub mod Numbers
 pub mod Reply
 pub mod ReaderInRange

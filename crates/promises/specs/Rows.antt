@@ -16,8 +16,6 @@ use Rattle.travel.specs.declared.Pulse.{Pulse}
 use Rattle.board.specs.Events.{setUp, afterPulse, afterBlocked, afterCleared, afterPowerUp}
 use Rattle.board.specs.declared.settings.Settings.{Settings}
 use Rattle.board.specs.declared.whole.Node.{Node}
-use Rattle.board.specs.Ranges.{SettingsInRange, BoardInRange}
-use Rattle.board.specs.Groups.{Groups}
 use Rattle.node.specs.Frames.{turnOf}
 use Rattle.meaning.specs.Membership.{IsOneOf}
 use Rattle.motors.specs.Register.{found}
@@ -29,6 +27,8 @@ use Rattle.form.specs.Reading.{readOf}
 use Rattle.form.specs.Writing.{writtenOf}
 use Rattle.promises.specs.Wire.{raw, message, ext, len, summed, stated, source, destination, dataCount}
 use Rattle.promises.specs.ReaderInRange.{ReaderInRange}
+use Rattle.promises.specs.BoardInRange.{SettingsInRange, BoardInRange}
+use Rattle.promises.specs.Groups.{Groups}
 use Rattle.promises.specs.RegisterInRange.{RegisterInRange}
 use Rattle.promises.specs.Numbers.{
   readNumber,

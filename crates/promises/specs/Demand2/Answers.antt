@@ -9,10 +9,10 @@ use Rattle.travel.specs.{Position.{percentOfPulse}, declared.Pulse.{Pulse}}
 use Rattle.board.specs.{
   Favourites.{reportedIp},
   Node.{statusOf},
-  Groups.{Groups},
   declared.{favourites.Ip.the-variants.{Unset, At}, whole.Node.{Node}},
 }
 use Rattle.node.specs.declared.turn.Turn.{Turn}
+use Rattle.promises.specs.Groups.{Groups}
 use Rattle.promises.specs.Wire.{message, dataOf, byteAt}
 use Rattle.promises.specs.BoardParts.{ipOf}
 use Rattle.promises.specs.Demand2.Turns.{Posted}

@@ -6,11 +6,8 @@ use mathlib.Core.Logic.{_≢_}
 use mathlib.Core.Bool.{true, false}
 use mathlib.Core.List.{List}
 use lib.ListN.{length}
-use Rattle.frame.specs.{Layout.{headerOf}, Reading.{IsFrame}}
 use Rattle.travel.specs.{Position.{pulseOfPercent}, declared.Pulse.{Pulse}}
 use Rattle.board.specs.{
-  Node.{sound},
-  Groups.{Groups},
   declared.{
     drive.Motion.the-variants.{Still, Running},
     favourites.Ip.{Ip},
@@ -19,17 +16,20 @@ use Rattle.board.specs.{
     groups.Change.the-variants.{Keep, Put},
   },
 }
-use Rattle.node.specs.{Meant.{Meant}, declared.turn.Turn.{Turn}}
-use Rattle.promises.specs.Wire.{message, source, dataOf, byteAt, wordAt}
+use Rattle.node.specs.declared.turn.Turn.{Turn}
+use Rattle.promises.specs.BoardInRange.{BoardInRange}
+use Rattle.promises.specs.Groups.{Groups}
+use Rattle.promises.specs.Meant.{Meant}
+use Rattle.promises.specs.Wire.{FrameRules, message, source, dataOf, byteAt, wordAt}
 use Rattle.promises.specs.BoardParts.{pulse, percent, address, drive, lock, ipOf, withDrive, withLock}
 use Rattle.promises.specs.Demand2.Turns.{CarriedOut}
 use Rattle.promises.specs.Demand2.Codes.{Accepted, stopRows, moveRows, setIpRows, lockRows, groupRows}
 
 -- A frame that a board in range is meant to carry out.
 pub record Arrives (n : Node) (g : Groups) (b : List ℕ) : Type 0 where
-  pub is-sound : sound n ≡ true
-  pub is-frame : IsFrame b
-  pub is-meant : Meant (n .settings) g (headerOf b)
+  pub in-range : BoardInRange n
+  pub is-frame : FrameRules b
+  pub is-meant : Meant n g b
   -- as the array of every board has
   pub has-sixteen-IPs : length (n .favourites .slots) ≡ 16
 

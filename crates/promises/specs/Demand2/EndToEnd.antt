@@ -5,13 +5,15 @@ use mathlib.Core.Path.{_≡_}
 use mathlib.Core.List.{List}
 use mathlib.Core.Option.{some}
 use Rattle.travel.specs.Position.{percentOfPulse}
-use Rattle.board.specs.{Favourites.{reportedIp}, Groups.{Groups}, Typed.{Typed, TypedTable}, declared.whole.Node.{Node}}
+use Rattle.board.specs.{Favourites.{reportedIp}, declared.whole.Node.{Node}}
 use Rattle.node.specs.Frames.{turnOf}
 use Rattle.motors.specs.{
   Register.{found},
   Filing.{filedOf},
   declared.{motor.Motor.{Motor}, answer.Next.{Next}, answer.Answer.the-variants.{Count}},
 }
+use Rattle.promises.specs.Groups.{Groups}
+use Rattle.promises.specs.Typed.{Typed, TypedTable}
 use Rattle.promises.specs.Wire.{message}
 use Rattle.promises.specs.Reply.{sent}
 use Rattle.promises.specs.RegisterInRange.{Holds, RegisterInRange}

@@ -14,12 +14,12 @@ use Rattle.node.specs.declared.turn.{
   Turn.{Turn},
 }
 use Rattle.promises.specs.Wire.{AsksForAnAnswer}
-use Rattle.promises.specs.Reply.{IsReply, nothingSaid}
+use Rattle.promises.specs.Reply.{IsReply, noReply}
 
 -- All but a GET is answered only with the ACK bit; without it the board is silent.
 pub record SaidIfAsked (n : Node) (b : List ℕ) (message : ℕ) (content : List ℕ) (t : Turn) : Type 0 where
   pub asked : AsksForAnAnswer b → (t .answer ≡ Replied) × IsReply n b message content (t .reply)
-  pub not-asked : ¬ AsksForAnAnswer b → (t .answer ≡ Silent) × (t .reply ≡ nothingSaid)
+  pub not-asked : ¬ AsksForAnAnswer b → (t .answer ≡ Silent) × (t .reply ≡ noReply)
 
 -- A SET or CTRL that is carried out: the board and the change of the table, and 7Fh.
 pub record CarriedOut (n : Node) (b : List ℕ) (t : Turn) (after : Node) (change : Change) : Type 0 where

@@ -1,14 +1,16 @@
--- Rows 32 and 33 in the paper's words: when settings, and a board whole, are in range.
+-- Rows 32 and 33 of document 01: when settings, and a board whole, are in range.
 -- Assumes nothing.
 use Prim.Native.Nat.{ℕ, _≤_}
 use mathlib.Core.Path.{_≡_}
 use lib.ListN.{getD}
 use Rattle.travel.specs.declared.Pulse.{Pulse}
-use Rattle.board.specs.Favourites.{slot}
-use Rattle.board.specs.declared.drive.Motion.the-variants.{Running}
-use Rattle.board.specs.declared.favourites.Ip.the-variants.{Unset, At}
-use Rattle.board.specs.declared.settings.Settings.{Settings}
-use Rattle.board.specs.declared.whole.Node.{Node}
+use Rattle.board.specs.declared.{
+  drive.Motion.the-variants.{Running},
+  favourites.Ip.the-variants.{Unset, At},
+  settings.Settings.{Settings},
+  whole.Node.{Node},
+}
+use Rattle.promises.specs.BoardParts.{slot}
 
 -- Row 32. A travel is 16 bits, so that 65,535 bounds it by its type.
 pub record SettingsInRange (s : Settings) : Type 0 where

@@ -1,46 +1,40 @@
--- Rows 32 and 33 in the paper's words: a board's settings, and a board whole, are in range exactly when these facts hold.
+-- Rows 32 and 33: the board's own tests decide whether settings, and a board whole, are in range.
 -- Assumes nothing.
 use Prim.Native.Nat.{ℕ, zero, suc, _≤_}
 use mathlib.Core.Path.{_≡_, refl}
 use mathlib.Core.Logic.{_↔_}
-use mathlib.Core.Bool.{Bool, true, _&&_}
+use mathlib.Core.Bool.{true}
 use mathlib.Core.List.{List, [], _∷_}
 use borrow.Author.Tests.{le-leb, leb-true}
 use lib.Dec.{leb}
 use lib.ListN.{getD}
 use Rattle.meaning.specs.Cases.{both, and-so}
-use Rattle.frame.specs.Address.{aNodeID}
 use Rattle.travel.specs.declared.Pulse.{Pulse}
 use Rattle.board.specs.Settings.{inRange}
-use Rattle.board.specs.Ranges.{SettingsInRange, BoardInRange}
 use Rattle.board.specs.Drive.{motionWithin}
-use Rattle.board.specs.Favourites.{slot, ipWithin, ipsWithin}
+use Rattle.board.specs.Favourites.{ipWithin, ipsWithin}
 use Rattle.board.specs.Node.{sound}
 use Rattle.board.specs.declared.drive.Motion.{Motion}
 use Rattle.board.specs.declared.drive.Motion.the-variants.{Still, Running}
 use Rattle.board.specs.declared.favourites.Ip.{Ip}
 use Rattle.board.specs.declared.favourites.Ip.the-variants.{Unset, At}
 use Rattle.board.specs.declared.favourites.Slot.{Slot}
 use Rattle.board.specs.declared.settings.Settings.{Settings}
 use Rattle.board.specs.declared.whole.Node.{Node}
-use Rattle.board.proofs.Sound.{parts-of, sound-of}
+use Rattle.board.proofs.Sound.{settings-facts, parts-of, sound-of}
+use Rattle.promises.specs.BoardParts.{slot}
+use Rattle.promises.specs.BoardInRange.{SettingsInRange, BoardInRange}
 
 module _ (s : Settings) where
-  abbrev typed : Bool
-  typed = leb 1 (s .kind) && (leb (s .kind) 15 && leb 100 (s .travel .0))
-
   settings-are : inRange s ≡ true → SettingsInRange s
   settings-are e =
-      let a = both (aNodeID (s .id) .holds) typed e in
-      let id = aNodeID (s .id) .is-fact (a .0) in
-      let c = both (leb 1 (s .kind)) (leb (s .kind) 15 && leb 100 (s .travel .0)) (a .1) in
-      let d = both (leb (s .kind) 15) (leb 100 (s .travel .0)) (c .1) in
+      let (id, (from-1, (to-15, from-100))) = settings-facts s e in
       record {
         NodeID-from-000001h = id .0;
         NodeID-to-FFFEFFh = id .1;
-        type-from-1 = leb-true 1 (s .kind) (c .0);
-        type-to-15 = leb-true (s .kind) 15 (d .0);
-        travel-from-100 = leb-true 100 (s .travel .0) (d .1);
+        type-from-1 = from-1;
+        type-to-15 = to-15;
+        travel-from-100 = from-100;
       }
 
   settings-so : SettingsInRange s → inRange s ≡ true
@@ -87,8 +81,8 @@ module _ (n : Node) where
   abbrev travel : Pulse
   travel = n .settings .travel
 
-  board-is : sound n ≡ true → BoardInRange n
-  board-is e =
+  pub in-range : sound n ≡ true → BoardInRange n
+  in-range e =
       let p = parts-of n e in
       let d = both (leb (n .drive .position .0) (travel .0)) (motionWithin travel (n .drive .motion)) (p .drive-within) in
       record {
@@ -99,8 +93,8 @@ module _ (n : Node) where
         holder-to-FFFFFFh = p .holder-is-an-address;
       }
 
-  board-so : BoardInRange n → sound n ≡ true
-  board-so r =
+  pub is-sound : BoardInRange n → sound n ≡ true
+  is-sound r =
       sound-of n
       (record {
         settings-in-range = settings-so (n .settings) (r .settings-in-range);
@@ -113,4 +107,4 @@ module _ (n : Node) where
       })
 
   pub sound-exactly-when : BoardInRange n ↔ (sound n ≡ true)
-  sound-exactly-when = (board-so, board-is)
+  sound-exactly-when = (is-sound, in-range)
