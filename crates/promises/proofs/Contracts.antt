@@ -1,7 +1,6 @@
 -- Each contract is its meaning.
 -- Assumes nothing.
 use mathlib.Core.Path.{refl}
-use Rattle.travel.specs.{Position.{percent-down-limit, pulse-down-limit}, Share.{share-to-n, share-above-n}}
 use Rattle.motors.specs.Motor.{isReading}
 use Rattle.promises.specs.Contracts.{Contracts, LentSliceContracts}
 use Rattle.promises.specs.Contracts.{
@@ -50,10 +49,6 @@ travel-contracts =
       percent-of-pulse-is = λ κs a. (tt, λ x s p. p);
       pulse-of-percent-is = λ κs a. (tt, λ x s p. p);
       share-of-is = λ κs a. (tt, λ x s p. p);
-      from-the-travel-on-the-percent-is-100 = percent-down-limit;
-      from-100-percent-on-the-pulse-is-the-travel = pulse-down-limit;
-      a-share-to-n-is-rounded-down = share-to-n;
-      a-share-above-n-is-100 = share-above-n;
     }
 
 messages-contracts : MessagesContracts
