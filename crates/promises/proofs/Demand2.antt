@@ -55,6 +55,7 @@ use Rattle.promises.proofs.Events.{events}
 use Rattle.promises.proofs.Codes.{codes}
 use Rattle.promises.proofs.Effects.{effects}
 use Rattle.promises.proofs.Answers.{answers}
+use Rattle.promises.proofs.Example.{example}
 use Rattle.promises.proofs.Held.{in-range}
 use Rattle.promises.proofs.Readings.{read-from-the-bytes, named}
 use Rattle.promises.proofs.EndToEnd.{end-to-end}
@@ -100,6 +101,7 @@ board =
       sixteen-IPs = sixteen-ips;
       fitting = fitting;
       what-a-message-does = effects;
+      an-example = example;
       what-a-GET-is-answered = answers;
     }
 

@@ -15,6 +15,7 @@ pub mod Turns
 pub mod Codes
 pub mod Effects
 pub mod Answers
+pub mod Example
 pub mod ReportBytes
 pub mod ReaderInRange
 pub mod Rows

@@ -13,6 +13,7 @@ pub mod Favourites
 pub mod Fitting
 pub mod Effects
 pub mod Answers
+pub mod Example
 pub mod Board
 pub mod Positions
 pub mod Register

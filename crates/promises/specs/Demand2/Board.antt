@@ -34,6 +34,7 @@ use Rattle.promises.specs.Rows.{_when_, FirstOf}
 use Rattle.promises.specs.Demand2.Events.{GroupTable, Events}
 use Rattle.promises.specs.Demand2.Codes.{Codes}
 use Rattle.promises.specs.Demand2.Effects.{Arrives, Effects}
+use Rattle.promises.specs.Demand2.Example.{Example}
 use Rattle.promises.specs.Demand2.Favourites.{SixteenIps}
 use Rattle.promises.specs.Demand2.Fitting.{Fitting}
 use Rattle.promises.specs.Demand2.Answers.{Answers}
@@ -95,6 +96,8 @@ pub record Board : Type 1 where
   pub events : Events
   pub which-code-refuses-a-message : (n : Node) (g : Groups) (b : List ℕ) → Arrives n g b → Codes n b (turnOf n g b)
   pub what-a-message-does : (n : Node) (g : Groups) (b : List ℕ) → Arrives n g b → Effects n b (turnOf n g b)
+  -- one of them worked out
+  pub an-example : Example
   -- of numbers that fit their types
   pub what-a-GET-is-answered :
       (n : Node) (g : Groups) (b : List ℕ) → Arrives n g b → Typed n → TypedTable g → Answers n g b (turnOf n g b)
