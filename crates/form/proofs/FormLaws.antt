@@ -63,7 +63,7 @@ module _ (run : List Motor) (b : List ℕ) where
     counted : checkOf (length run) b ≡ answer.Count n
     counted = the-check-is-the-answer run b ∙ e
 
-    accepted : Accepted formOne b n
+    pub accepted : Accepted formOne b n
     accepted = rw counted at (checked-as formOne (length run) b)
 
     abbrev motors : List Motor
@@ -72,7 +72,7 @@ module _ (run : List Motor) (b : List ℕ) where
     number-read : length motors ≡ countIn b
     number-read = number formOne TwoBytePulse form-one-is-faithful b n accepted
 
-    places-read : after .motors ≡ filled motors
+    pub places-read : after .motors ≡ filled motors
     places-read = ap (λ (a : Answer). readBy formOne run b a .motors) counted
 
     pub the-count-is-the-one-stored : n ≡ countIn b

@@ -123,7 +123,7 @@ module _ (run : List Motor) (count : ℕ) (n : ℕ) where
       (λ t. rw t (sym (written-by run count n 0 t)))
 
   -- A form is written of a sound register, where there is room.
-  written-where : (size : ℕ) → writtenOf run count n ≡ Bytes size → (soundOf run count ≡ true) × (formLength formOne count ≤ n)
+  pub written-where : (size : ℕ) → writtenOf run count n ≡ Bytes size → (soundOf run count ≡ true) × (formLength formOne count ≤ n)
   unfolding writtenOf
   written-where size e =
       ⊎-elim (λ p. (p .0, p .1 .0)) (λ r. absurd (false≢true (sym (ap isRefused e) ∙ r)))

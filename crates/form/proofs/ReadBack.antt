@@ -57,7 +57,7 @@ same-at : {A : Type 0} (g : (line node : ℕ) → List ℕ → A) {line line′ 
     → g line node d ≡ g line′ node′ d′
 same-at g e h k = rw (e, h, k)
 
-right-entry : (s : Shape) (previous : Motor) (count : ℕ) (b : List ℕ) (i : ℕ) → isLine (lineIn b i) ≡ true → isNode (nodeIn b i) ≡ true
+pub right-entry : (s : Shape) (previous : Motor) (count : ℕ) (b : List ℕ) (i : ℕ) → isLine (lineIn b i) ≡ true → isNode (nodeIn b i) ≡ true
     → earlierOf previous (motorIn s count b i) ≡ true → pointerIn b i ≡ bodyPlace s count i → entryBehind s previous count b i ≡ true
 unfolding entryBehind
 right-entry s previous count b i line node order place = rw (line, node, order) (eq-eqb (pointerIn b i) (bodyPlace s count i) place)
@@ -89,14 +89,14 @@ module _ (s : Shape) (Fits : Motor → Type 0) (f : Faithful s Fits) (l : List M
     abbrev m : Motor
     m = getD l i zeros
 
-    entry-is : entryIn form i ≡ entryOf s count i m
+    pub entry-is : entryIn form i ≡ entryOf s count i m
     entry-is =
         let start : 0 + i ≡ i = omega arith in
         ap (take entrySize) (sym (drop-drop (entrySize * i) headSize form) ∙ ap (drop (entrySize * i)) behind-the-head)
         ∙ one-in-turn (entryOf s count) entrySize (λ i m. refl) 0 i l (bodiesOf s l) h
         ∙ ap (λ (k : ℕ). entryOf s count k m) start
 
-    body-is : bodyIn s count form i ≡ s .bodyOf m
+    pub body-is : bodyIn s count form i ≡ s .bodyOf m
     body-is =
         ap (take (s .bodySize)) (sym (drop-drop (s .bodySize * i) (entryPlace count) form) ∙ ap (drop (s .bodySize * i)) behind-the-contents)
         ∙ one-in-turn (bodyOf s) (s .bodySize) (λ i m. f .of-one-size m) 0 i l [] h

@@ -13,6 +13,12 @@ use Rattle.motors.specs.Order.{keyOf, earlierOf, so-said}
 use Rattle.motors.specs.Register.{Right}
 use Rattle.motors.specs.declared.motor.Motor.{Motor}
 
+-- Zeros stand before every motor with a NodeID.
+pub zeros-first : (m : Motor) → 1 ≤ m .node → earlierOf zeros m ≡ true
+zeros-first m h =
+    so-said (keyOf zeros) (keyOf m)
+    (by-test (ltb 0 (m .line)) (λ t. inl (ltb-true 0 (m .line) t)) (λ t. inr (omega (arith, ltb-false 0 (m .line) t), h)))
+
 module _ (m : Motor) (right : Right m) where
   pub line-right : isLine (m .line) ≡ true
   unfolding rightOf rightBesideLine
@@ -37,8 +43,5 @@ module _ (m : Motor) (right : Right m) where
   unfolding isNode
   node-small = omega (arith, aNode (m .node) .is-fact node-right .1)
 
-  -- Zeros stand before every motor that is right.
   pub behind-zeros : earlierOf zeros m ≡ true
-  behind-zeros =
-      so-said (keyOf zeros) (keyOf m)
-      (by-test (ltb 0 (m .line)) (λ t. inl (ltb-true 0 (m .line) t)) (λ t. inr (omega (arith, ltb-false 0 (m .line) t), node-from-1)))
+  behind-zeros = zeros-first m node-from-1

@@ -56,15 +56,15 @@ use Rattle.form.proofs.Accepted.{Accepted}
 
 -- ---- an entry that is right
 module _ (s : Shape) (count : ℕ) (b : List ℕ) (i : ℕ) (right : entryRight s count b i ≡ true) where
-  line-right : isLine (lineIn b i) ≡ true
+  pub line-right : isLine (lineIn b i) ≡ true
   unfolding entryBehind
   line-right = passed-both (isLine (lineIn b i)) _ right .0
 
-  node-right : isNode (nodeIn b i) ≡ true
+  pub node-right : isNode (nodeIn b i) ≡ true
   unfolding entryBehind
   node-right = passed-both (isNode (nodeIn b i)) _ (passed-both (isLine (lineIn b i)) _ right .1) .0
 
-  order-and-place : (earlierOf (previousIn s count b i) (motorIn s count b i) ≡ true) × (eqb (pointerIn b i) (bodyPlace s count i) ≡ true)
+  pub order-and-place : (earlierOf (previousIn s count b i) (motorIn s count b i) ≡ true) × (eqb (pointerIn b i) (bodyPlace s count i) ≡ true)
   unfolding entryBehind
   order-and-place =
       passed-both (earlierOf (previousIn s count b i) (motorIn s count b i)) _
@@ -112,7 +112,7 @@ module _ (s : Shape) (Fits : Motor → Type 0) (f : Faithful s Fits) (b : List �
   pub number : length motors ≡ count
   number = length-listed motorAt 0 count
 
-  at-place : (i : ℕ) → i < count → getD motors i zeros ≡ motorAt i
+  pub at-place : (i : ℕ) → i < count → getD motors i zeros ≡ motorAt i
   at-place i h = let start : 0 + i ≡ i = omega arith in listed-at motorAt 0 count i zeros h ∙ ap motorAt start
 
   entry-right : (i : ℕ) → i < count → entryRight s count b i ≡ true

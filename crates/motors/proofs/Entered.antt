@@ -63,6 +63,11 @@ module _ (l : List Motor) (m : Motor) where
       (λ h. rw (t, h) (placed-is-found byLineAndNode l m ∙ ap (λ (f : Option Motor). some (renewedIf f m))
       (sym (not-held-is-none byLineAndNode l (keyOf m) h)))))
 
+  -- A motor that is held and shows no reading changes nothing.
+  pub entered-again : marked m ≡ false → holds byLineAndNode l (keyOf m) ≡ true → entered l m ≡ l
+  unfolding entered enrolled
+  entered-again t h = rw (t, h)
+
   pub entered-another : (k : Key) → same (keyOf m) k ≡ false → lookedUp byLineAndNode (entered l m) k ≡ lookedUp byLineAndNode l k
   entered-another k d =
       by-way (λ (r : List Motor). lookedUp byLineAndNode r k ≡ lookedUp byLineAndNode l k)

@@ -13,7 +13,7 @@ use Rattle.refusal.specs.declared.Refusal.{Refusal}
 use Rattle.frame.specs.Layout.{message, source, headerOf, dataOf}
 use Rattle.frame.specs.Reading.{IsFrame}
 use Rattle.runs.proofs.Order.{else-false}
-use Rattle.motors.specs.Motor.{unread, withReading}
+use Rattle.motors.specs.Motor.{unread, withReading, marked}
 use Rattle.motors.specs.Register.{held, filled, soundOf, foundIn, found}
 use Rattle.motors.specs.Report.{reportOf, pulseIn, percentIn, ipIn}
 use Rattle.runs.specs.Ordered.{isSome, lookedUp}
@@ -30,6 +30,7 @@ use Rattle.motors.proofs.Entered.{
   renewedIf,
   more,
   entered-itself,
+  entered-again,
   entered-another,
   entered-keeps,
   entered-number,
@@ -133,6 +134,13 @@ module _ (run : List Motor) (count line : ℕ) (b : List ℕ) where
         → found (after .motors) n line (source b .0) ≡ some x
     a-60h-changes-no-reading e x old =
         found-now ∙ ap₂ (λ (f : Option Motor) (m : Motor). some (renewedIf f m)) old (done .shown .by-60h e)
+
+    pub a-60h-of-a-motor-held-changes-no-place : message b ≡ 0x60 → isSome (found run count line (source b .0)) ≡ true → after .motors ≡ run
+    a-60h-of-a-motor-held-changes-no-place e h =
+        let there = ap₂ (λ (l k : ℕ). isSome (found run count l k)) same-line same-number ∙ h in
+        done .places
+        ∙ ap filled (entered-again (held run count) (done .motor) (ap marked (done .shown .by-60h e)) there)
+        ∙ sym (sound-is run count (done .ok) .zeros-behind)
 
     -- ---- nothing else changes: the same number on another line is another motor
     pub every-other-motor-is-untouched : (line′ node′ : ℕ) → (line ≡ line′ → source b .0 ≡ node′ → ⊥)
