@@ -25,6 +25,7 @@ use Rattle.form.specs.{
   Writing.{writtenOf, bufferAfter as formWritten},
   declared.writing.Written.the-variants.{Bytes as Written},
 }
+use Rattle.promises.specs.RegisterInRange.{noMotors}
 use Rattle.promises.specs.Figures.{
   P1,
   P2,
@@ -38,7 +39,6 @@ use Rattle.promises.specs.Figures.{
   P10,
   P11,
   positionTold,
-  noMotors,
   onLine0,
   onLine1,
   oneMotor,

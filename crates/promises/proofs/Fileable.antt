@@ -24,16 +24,19 @@ use Rattle.motors.specs.declared.answer.Answer.the-variants.{Count}
 use Rattle.motors.specs.declared.answer.Next.{Next}
 use Rattle.motors.specs.declared.report.Report.{Report}
 use Rattle.motors.specs.declared.report.Report.the-variants.{Seen, Refused}
-use Rattle.promises.specs.RegisterInRange.{RegisterInRange}
 use Rattle.promises.proofs.RegisterInRange.{sound-exactly-when}
 use Rattle.motors.proofs.Rows.{filed-by, as-reported, struck-by}
 use Rattle.motors.proofs.Shown.{seen}
 use Rattle.motors.proofs.Full.{never-both, taken-exactly-when}
 use Rattle.promises.specs.Wire.{raw}
-use Rattle.promises.specs.Fileable.{Fileable, Reports, Strikeable}
+use Rattle.promises.specs.Fileable.{IsHeld, Fileable, Reports, Strikeable}
+use Rattle.promises.proofs.Held.{found-some}
 use Rattle.promises.proofs.ReportBytes.{report-byte}
 
 module _ (run : List Motor) (count line : ℕ) (b : List ℕ) where
+  is-held : IsHeld run count line (source b .0) ↔ (isSome (found run count line (source b .0)) ≡ true)
+  is-held = found-some (found run count line (source b .0))
+
   abbrev HasAPlace : Type 0
   HasAPlace = (isSome (found run count line (source b .0)) ≡ true) ⊎ (count < 256)
 
@@ -94,7 +97,7 @@ module _ (run : List Motor) (count line : ℕ) (b : List ℕ) where
       let ok = sound-exactly-when run count .0 (f .sound-register) in
       let (m, e) = shows f in
       let (l, k) = same-motor m e in
-      let (n, t) = taken-exactly-when run count m ok .0 (rw (l, k) (f .has-a-place)) in
+      let (n, t) = taken-exactly-when run count m ok .0 (rw (l, k) (⊎-elim (λ h. inl (is-held .0 h)) inr (f .has-a-place))) in
       (n, answer-of (Seen m) ok e ∙ t)
 
   -- ---- what is filed was fileable: each row that did not apply leaves its fact
@@ -148,7 +151,7 @@ module _ (run : List Motor) (count line : ℕ) (b : List ℕ) where
         sender-to-FFFEFFh = sender .0 .1;
         not-to-a-group = sender .1;
         names-or-reports = names-or-reports named reading;
-        has-a-place = place;
+        has-a-place = ⊎-elim (λ h. inl (is-held .1 h)) inr place;
       }
 
   pub filed-exactly-when : Fileable run count line b ↔ IsFiled
@@ -164,7 +167,7 @@ module _ (run : List Motor) (count line node : ℕ) where
       let sound = sound-exactly-when run count .0 (s .sound-register) in (
         length (without byLineAndNode (held run count) (line, node)),
         ap (λ (y : Next). y .answer)
-            (struck-by run count line node 3 (sound, (s .on-line-0-to-3, (s .is-held, tt)))),
+            (struck-by run count line node 3 (sound, (s .on-line-0-to-3, (found-some (found run count line node) .0 (s .is-held), tt)))),
       )
 
   abbrev WasStrikeable : Next → Type 0
@@ -179,7 +182,11 @@ module _ (run : List Motor) (count line node : ℕ) where
       of-decided WasStrikeable (strikeTable run count line node) (keeping (without byLineAndNode (held run count) (line, node)))
       (refused Refusal.BrokenRegister, (refused Refusal.NoSuchLine, (refused Refusal.NotHeld, tt)))
       λ (sound, (few, (there, end))) struck.
-      record { sound-register = sound-exactly-when run count .1 sound; on-line-0-to-3 = few; is-held = there }
+      record {
+        sound-register = sound-exactly-when run count .1 sound;
+        on-line-0-to-3 = few;
+        is-held = found-some (found run count line node) .1 there;
+      }
 
   pub struck-exactly-when : Strikeable run count line node ↔ IsStruck (struckOf run count line node)
   struck-exactly-when = (strikeable-is-struck, struck-was-strikeable)

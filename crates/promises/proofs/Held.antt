@@ -1,15 +1,24 @@
--- The fields of a record that the register holds, as facts.
+-- A record that the register holds: that it is found, and its fields, as facts.
 -- Assumes nothing.
-use mathlib.Core.Path.{_≡_}
-use mathlib.Core.Logic.{_⊎_, inl, inr, ⊎-elim}
+use mathlib.Core.Path.{_≡_, refl, ap}
+use mathlib.Core.Logic.{_↔_, _⊎_, inl, inr, ⊎-elim}
 use native.Mathlib.Omega.{arith}
-use mathlib.Core.Bool.{true}
+use mathlib.Core.Bool.{true, false≢true}
+use mathlib.Core.Option.{Option, none, some}
 use lib.Dec.{eqb}
 use borrow.Author.Tests.{leb-true, eqb-true}
 use Rattle.meaning.specs.Cases.{by-test, passed-both}
+use Rattle.runs.specs.Ordered.{isSome}
 use Rattle.motors.specs.Motor.{marked, isLine, aNode, isNode, aReading, isReading, unreadPart, readingPart, rightBesideLine, rightOf}
 use Rattle.motors.specs.declared.motor.Motor.{Motor}
 use Rattle.promises.specs.RegisterInRange.{InRange}
+
+pub found-some : (f : Option Motor) → ((m : Motor) × (f ≡ some m)) ↔ (isSome f ≡ true)
+found-some f = (λ s. ap isSome (s .1), by f)
+  where
+    by : (f : Option Motor) → isSome f ≡ true → (m : Motor) × (f ≡ some m)
+    by none e = absurd (false≢true e)
+    by (some m) e = (m, refl)
 
 unread-is : (m : Motor) → unreadPart m ≡ true → (m .mark ≡ 0) × ((m .pulse ≡ 0) × ((m .percent ≡ 0) × (m .ip ≡ 0)))
 unfolding unreadPart

@@ -18,14 +18,16 @@ pub mod Answers
 pub mod Example
 pub mod ReportBytes
 pub mod ReaderInRange
+pub mod StoredBytes
 pub mod Rows
 pub mod LineReader
 pub mod RunAfterRun
 pub mod Status
 pub mod Fileable
 pub mod Readings
+pub mod Register
+pub mod StoredForm
 pub mod EndToEnd
-pub mod Stored
 pub mod Demand1
 pub mod Demand2
 pub mod Demand3

@@ -1,15 +1,15 @@
 -- Row 19 place by place is the register's own test, and what is found stands in the run.
 -- Assumes nothing.
-use Prim.Native.Nat.{ℕ, zero, suc, _≤_, _<_}
+use Prim.Native.Nat.{ℕ, zero, suc, _<_}
 use native.Mathlib.Omega.{arith}
 use native.Mathlib.Nat.{le-of-suc-le-suc}
-use mathlib.Core.Path.{_≡_, refl, _∙_, sym, ap}
-use mathlib.Core.Logic.{_↔_, _⊎_, inl, inr, ⊎-elim}
+use mathlib.Core.Path.{_≡_, _∙_, sym, ap}
+use mathlib.Core.Logic.{_↔_, inl, inr, ⊎-elim}
 use mathlib.Core.Bool.{true}
 use mathlib.Core.List.{List, [], _∷_}
 use mathlib.Core.Option.{some}
 use lib.Dec.{ltb}
-use lib.ListN.{length, getD, take, length-take}
+use lib.ListN.{length, getD, length-take}
 use lib.Seq.{getD-take, ext-getD}
 use borrow.Author.Tests.{le-leb, eq-eqb, ne-eqb, ltb-true, ltb-false}
 use Rattle.meaning.specs.Cases.{by-test}
@@ -20,14 +20,14 @@ use Rattle.runs.proofs.Lookup.{here, further, found-has-the-key}
 use Rattle.runs.proofs.Place.{held-exactly-when-at-its-place, found-at-its-place}
 use Rattle.runs.proofs.ByPlace.{every-place-is-behind, ascending-exactly-when-by-place, all-exactly-when-by-place}
 use Rattle.runs.proofs.Filled.{filled-has-every-place, filled-has-the-record, filled-is-blank-behind}
-use Rattle.motors.specs.Motor.{motor, zeros, marked, aNode, isNode, aReading, isReading, unreadPart, readingPart, rightBesideLine, rightOf}
-use Rattle.motors.specs.Order.{Key, keyOf, byLineAndNode, so-said, same-is, same-itself}
+use Rattle.motors.specs.Motor.{motor, zeros, aNode, isNode, aReading, isReading, unreadPart, readingPart, rightBesideLine, rightOf}
+use Rattle.motors.specs.Order.{Key, keyOf, byLineAndNode, so-said, same-is}
 use Rattle.motors.specs.Register.{held, filled, soundOf, found, Right, Sound}
 use Rattle.motors.specs.declared.motor.Motor.{Motor}
 use Rattle.motors.proofs.Sound as motors
 use Rattle.motors.proofs.Sound.{sound-is, length-held}
 use Rattle.motors.proofs.Register.{each-record-is-before-the-later-ones, each-record-is-right}
-use Rattle.promises.specs.RegisterInRange.{Before, InRange, Holds, at, RegisterInRange}
+use Rattle.promises.specs.RegisterInRange.{InRange, Holds, at, RegisterInRange}
 use Rattle.promises.proofs.Held.{in-range}
 
 -- ---- a record in range is right
@@ -62,7 +62,7 @@ same-fields a b c d e f = rw (a, b, c, d, e, f)
 is-zeros : (m : Motor) → Holds m 0 0 0 0 0 0 → m ≡ zeros
 is-zeros m h = same-fields (h .the-line) (h .the-NodeID) (h .the-mark) (h .the-pulse) (h .the-percent) (h .the-IP)
 
-zeros-hold : (m : Motor) → m ≡ zeros → Holds m 0 0 0 0 0 0
+pub zeros-hold : (m : Motor) → m ≡ zeros → Holds m 0 0 0 0 0 0
 zeros-hold m e =
     record {
       the-line = ap (λ (x : Motor). x .line) e;
@@ -74,11 +74,11 @@ zeros-hold m e =
     }
 
 module _ (run : List Motor) (count : ℕ) where
-  -- the records held are the first places
-  at-held : (place : ℕ) → place < count → getD (held run count) place zeros ≡ at run place
+  -- The records held are the first places.
+  pub at-held : (place : ℕ) → place < count → getD (held run count) place zeros ≡ at run place
   at-held place h = getD-take count run place zeros h
 
-  row-19 : soundOf run count ≡ true → RegisterInRange run count
+  pub row-19 : soundOf run count ≡ true → RegisterInRange run count
   row-19 ok =
       let s = sound-is run count ok in
       record {
@@ -133,8 +133,11 @@ module _ (run : List Motor) (count : ℕ) where
               (r .of-256-places ∙ sym (filled-has-every-place 256 zeros (held run count) (omega (arith, number, r .at-most-256-motors)))) same-place;
         }
 
+  pub so-sound : RegisterInRange run count → soundOf run count ≡ true
+  so-sound r = motors.sound-exactly-when run count .0 (sound r)
+
   pub sound-exactly-when : RegisterInRange run count ↔ (soundOf run count ≡ true)
-  sound-exactly-when = (λ r. motors.sound-exactly-when run count .0 (sound r), row-19)
+  sound-exactly-when = (so-sound, row-19)
 
 -- ---- what is found stands in the run
 -- Every record of a run in order is found under its key.

@@ -57,8 +57,9 @@ use Rattle.promises.proofs.BoardInRange.{settings-exactly-when}
 use Rattle.promises.proofs.BoardInRange as board
 use Rattle.promises.proofs.RegisterInRange.{sound-exactly-when}
 use Rattle.promises.proofs.ReportBytes.{bad-by-its-bytes}
+use Rattle.promises.proofs.StoredBytes.{contents-exactly-when, bodies-exactly-when}
 use Rattle.motors.proofs.Full.{beyond-exactly-when}
-use Rattle.form.specs.Layout.{countIn, formLength}
+use Rattle.form.specs.Layout.{formLength, countIn, contentsRight, bodiesRight}
 use Rattle.form.specs.FormOne.{formOne}
 use Rattle.form.specs.Reading.{checked, readFormTable, checkOf, readOf}
 use Rattle.form.proofs.InPlace.{the-check-is-the-answer}
@@ -307,9 +308,15 @@ file run count line b =
     (first-then left (fileTable run count) (reportedBy entered run count (reportOf line b)) more (λ facts. reading run count line b (facts .0)))
 
 -- ---- stored form 1
+-- Rows 43 and 44 are told by the bytes of each entry and body.
 check-form : (run : List Motor) (b : List ℕ) → FirstOf (readFormRows run b) (registerNumber (checkOf (length run) b))
 unfolding checked
-check-form run b = first registerNumber (readFormTable (length run) b) (Count (countIn b)) refl
+check-form run b =
+    let count = countIn b in
+    let contents = fails-exactly-when (contentsRight formOne count b) (contents-exactly-when b count) in
+    let bodies = fails-exactly-when (bodiesRight formOne count b) (bodies-exactly-when b count) in
+    same-number (as-it-is λ p. as-it-is λ q. as-it-is λ r. as-it-is λ s. in-other-words contents λ t. in-other-words bodies λ u. at-the-end)
+    (first registerNumber (readFormTable (length run) b) (Count count) refl)
 
 read-form : (run : List Motor) (b : List ℕ) → FirstOf (readFormRows run b) (left (readOf run b))
 read-form run b = subst (λ (a : Answer). FirstOf (readFormRows run b) (registerNumber a)) (the-check-is-the-answer run b) (check-form run b)

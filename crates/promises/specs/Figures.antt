@@ -31,6 +31,7 @@ use Rattle.form.specs.{
 use Rattle.promises.specs.Wire.{inverted}
 use Rattle.promises.specs.Numbers.{readNumber}
 use Rattle.promises.specs.BoardParts.{address, pulse, percent, ip, drive, lock, noIps, emptyTable}
+use Rattle.promises.specs.RegisterInRange.{noMotor, noMotors}
 
 -- A header without the ACK bit.
 abbrev pub header : (message sender receiver source destination : ℕ) → Header
@@ -125,16 +126,10 @@ P10 =
     × (shareOf (ip 2) 3 ≡ percent 50)
     × (shareOf (ip 3) 3 ≡ percent 75)
 
--- A record, and a place that holds none.
+-- A record.
 abbrev pub motor : (line node mark pulse percent ip : ℕ) → Motor
 motor line node mark pulse percent ip =
     record { node = node; line = line; mark = mark; pulse = pulse; percent = percent; ip = ip }
-
-abbrev pub noMotor : Motor
-noMotor = motor 0 0 0 0 0 0
-
-abbrev pub noMotors : List Motor
-noMotors = replicate 256 noMotor
 
 -- NodeID 05:04:03 on line 0, read 333, 33, FFh, and on line 1, with no reading.
 abbrev pub onLine0 : Motor

@@ -4,11 +4,10 @@
 use Prim.Native.Nat.{ℕ, _≤_, _<_}
 use mathlib.Core.Path.{_≡_}
 use mathlib.Core.Logic.{_≢_, _⊎_}
-use mathlib.Core.Bool.{true}
 use mathlib.Core.List.{List}
+use mathlib.Core.Option.{some}
 use Rattle.frame.specs.Reading.{IsFrame}
 use Rattle.motors.specs.Register.{found}
-use Rattle.runs.specs.Ordered.{isSome}
 use Rattle.motors.specs.declared.motor.Motor.{Motor}
 use Rattle.promises.specs.Wire.{raw, message, source, destination, dataCount}
 use Rattle.promises.specs.RegisterInRange.{RegisterInRange}
@@ -19,6 +18,10 @@ pub record Reports (b : List ℕ) : Type 0 where
   pub from-5-bytes-of-DATA : 5 ≤ dataCount b
   pub percent-to-100 : raw b 11 ≤ 100
   pub IP-1-to-16-or-FFh : ((1 ≤ raw b 13) × (raw b 13 ≤ 16)) ⊎ (raw b 13 ≡ 0xFF)
+
+-- A motor is held: its record is found.
+abbrev pub IsHeld : List Motor → (count line node : ℕ) → Type 0
+IsHeld run count line node = (m : Motor) × (found run count line node ≡ some m)
 
 pub record Fileable (run : List Motor) (count line : ℕ) (b : List ℕ) : Type 0 where
   -- row 19: 256 places, at most 256 records, in order, zeros behind them
@@ -34,7 +37,7 @@ pub record Fileable (run : List Motor) (count line : ℕ) (b : List ℕ) : Type 
   -- rows 22 and 23
   pub names-or-reports : (message b ≡ 0x60) ⊎ Reports b
   -- row 24: the motor is held already, or there is a place for one more
-  pub has-a-place : (isSome (found run count line (source b)) ≡ true) ⊎ (count < 256)
+  pub has-a-place : IsHeld run count line (source b) ⊎ (count < 256)
 
 pub record Strikeable (run : List Motor) (count line node : ℕ) : Type 0 where
   -- row 19
@@ -42,4 +45,4 @@ pub record Strikeable (run : List Motor) (count line node : ℕ) : Type 0 where
   -- row 20
   pub on-line-0-to-3 : line ≤ 3
   -- row 25
-  pub is-held : isSome (found run count line node) ≡ true
+  pub is-held : IsHeld run count line node

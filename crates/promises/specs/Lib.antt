@@ -14,6 +14,7 @@ pub mod Numbers
 pub mod Reply
 pub mod ReaderInRange
 pub mod RegisterInRange
+pub mod StoredBytes
 pub mod Rows
 pub mod Fileable
 pub mod Demand1

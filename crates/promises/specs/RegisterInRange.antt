@@ -5,8 +5,7 @@ use Prim.Native.Nat.{ℕ, _≤_, _<_}
 use mathlib.Core.Path.{_≡_}
 use mathlib.Core.Logic.{_⊎_}
 use mathlib.Core.List.{List}
-use lib.ListN.{length, getD}
-use Rattle.motors.specs.Motor.{zeros}
+use lib.ListN.{length, getD, replicate}
 use Rattle.motors.specs.declared.motor.Motor.{Motor}
 
 -- Strictly ascending: line, then NodeID as a number.
@@ -31,13 +30,22 @@ pub record Holds (m : Motor) (line node mark pulse percent ip : ℕ) : Type 0 wh
   pub the-percent : m .percent ≡ percent
   pub the-IP : m .ip ≡ ip
 
+-- The record of a place that holds no motor.
+abbrev pub noMotor : Motor
+noMotor = record { node = 0; line = 0; mark = 0; pulse = 0; percent = 0; ip = 0 }
+
+-- A run of 256 places that holds none.
+abbrev pub noMotors : List Motor
+noMotors = replicate 256 noMotor
+
 -- What stands at a place of a run that has it.
 abbrev pub at : List Motor → ℕ → Motor
-at run place = getD run place zeros
+at run place = getD run place noMotor
 
 pub record RegisterInRange (run : List Motor) (count : ℕ) : Type 0 where
   pub of-256-places : length run ≡ 256
   pub at-most-256-motors : count ≤ 256
   pub every-record-held-is-in-range : (place : ℕ) → place < count → InRange (at run place)
-  pub records-ascend-by-line-then-NodeID : (first later : ℕ) → first < later → later < count → Before (at run first) (at run later)
+  pub records-ascend-by-line-then-NodeID :
+      (first later : ℕ) → first < later → later < count → Before (at run first) (at run later)
   pub every-other-place-is-zeros : (place : ℕ) → count ≤ place → place < 256 → Holds (at run place) 0 0 0 0 0 0

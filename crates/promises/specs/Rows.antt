@@ -21,8 +21,6 @@ use Rattle.meaning.specs.Membership.{IsOneOf}
 use Rattle.motors.specs.Register.{found}
 use Rattle.motors.specs.Filing.{filedOf, struckOf}
 use Rattle.motors.specs.declared.motor.Motor.{Motor}
-use Rattle.form.specs.Layout.{countIn, contentsRight, bodiesRight}
-use Rattle.form.specs.FormOne.{formOne}
 use Rattle.form.specs.Reading.{readOf}
 use Rattle.form.specs.Writing.{writtenOf}
 use Rattle.promises.specs.Wire.{raw, message, ext, len, summed, stated, source, destination, dataCount}
@@ -30,6 +28,7 @@ use Rattle.promises.specs.ReaderInRange.{ReaderInRange}
 use Rattle.promises.specs.BoardInRange.{SettingsInRange, BoardInRange}
 use Rattle.promises.specs.Groups.{Groups}
 use Rattle.promises.specs.RegisterInRange.{RegisterInRange}
+use Rattle.promises.specs.StoredBytes.{storedCount, EntryRight, BodyRight}
 use Rattle.promises.specs.Numbers.{
   readNumber,
   writeNumber,
@@ -110,10 +109,10 @@ abbrev pub readFormRows : List Motor → List ℕ → List Row
 readFormRows run b =
     19 when (length run ≢ 256)
     ∷ 40 when ((length b < 3) ⊎ (getD b 0 0 ≢ 1))
-    ∷ 41 when (256 < getD b 1 0 + 256 * getD b 2 0)
-    ∷ 42 when (length b ≢ 3 + 11 * (getD b 1 0 + 256 * getD b 2 0))
-    ∷ 43 when (contentsRight formOne (countIn b) b ≡ false)
-    ∷ 44 when (bodiesRight formOne (countIn b) b ≡ false)
+    ∷ 41 when (256 < storedCount b)
+    ∷ 42 when (length b ≢ 3 + 11 * storedCount b)
+    ∷ 43 when (¬ ((i : ℕ) → i < storedCount b → EntryRight b (storedCount b) i))
+    ∷ 44 when (¬ ((i : ℕ) → i < storedCount b → BodyRight b (storedCount b) i))
     ∷ []
 
 pub record Rows : Type 1 where

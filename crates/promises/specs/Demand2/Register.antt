@@ -2,23 +2,22 @@
 -- Assumes nothing.
 use Prim.Native.Nat.{ℕ, _+_, _*_, _<_}
 use mathlib.Core.Path.{_≡_}
-use mathlib.Core.Logic.{_≢_, _↔_, _⊎_}
-use mathlib.Core.Bool.{true, false}
+use mathlib.Core.Logic.{_≢_, _↔_}
 use mathlib.Core.List.{List}
 use mathlib.Core.Option.{none, some}
-use lib.ListN.{getD}
 use Rattle.motors.specs.{
-  Motor.{zeros},
-  Register.{held, soundOf, found},
+  Register.{found},
   Filing.{filedOf, struckOf},
-  declared.{motor.Motor.{Motor}, answer.Answer.the-variants.{Count}},
+  declared.{motor.Motor.{Motor}, answer.Answer.{Answer}, answer.Answer.the-variants.{Count, Refused}},
 }
-use Rattle.runs.specs.Ordered.{isSome}
-use Rattle.motors.specs.Register.{occupied}
-use Rattle.motors.specs.Filing.{countAfter}
 use Rattle.promises.specs.Wire.{raw, message, source}
-use Rattle.promises.specs.RegisterInRange.{Before, InRange, Holds, at, RegisterInRange}
-use Rattle.promises.specs.Fileable.{Fileable, Strikeable}
+use Rattle.promises.specs.RegisterInRange.{Holds, noMotors, at, RegisterInRange}
+use Rattle.promises.specs.Fileable.{IsHeld, Fileable, Strikeable}
+
+-- How many motors are held after a call: as many as it answers, or as before where it refuses.
+abbrev pub heldAfter : (before : ℕ) → Answer → ℕ
+heldAfter before (Count n) = n
+heldAfter before (Refused refusal) = before
 
 -- What holds when a bundle from a line is filed in a run with its count: then `n` motors are held, in the run `after`.
 pub record Filed (run : List Motor) (count line : ℕ) (b : List ℕ) (after : List Motor) (n : ℕ) : Type 0 where
@@ -32,13 +31,15 @@ pub record Filed (run : List Motor) (count line : ℕ) (b : List ℕ) (after : L
   pub a-60h-changes-no-reading :
       message b ≡ 0x60 → (m : Motor) → found run count line (source b) ≡ some m
       → found after n line (source b) ≡ some m
+  pub a-60h-of-a-motor-held-changes-no-place : message b ≡ 0x60 → IsHeld run count line (source b) → after ≡ run
   pub every-other-motor-is-as-before :
       (line′ node′ : ℕ) → (line ≡ line′ → source b ≡ node′ → ⊥)
       → found after n line′ node′ ≡ found run count line′ node′
   pub two-wings-one-number : (line′ : ℕ) → line ≢ line′
       → found after n line′ (source b) ≡ found run count line′ (source b)
-  pub no-motor-held-is-lost : (line′ node′ : ℕ) → isSome (found run count line′ node′) ≡ true
-      → isSome (found after n line′ node′) ≡ true
+  pub no-motor-held-is-lost : (line′ node′ : ℕ) → IsHeld run count line′ node′ → IsHeld after n line′ node′
+  pub a-motor-held-is-not-counted-again : IsHeld run count line (source b) → n ≡ count
+  pub a-new-motor-is-one-more : found run count line (source b) ≡ none → n ≡ count + 1
 
 -- What holds when a motor is struck out: the same of `after` and `n`.
 pub record StruckOut (run : List Motor) (count line node : ℕ) (after : List Motor) (n : ℕ) : Type 0 where
@@ -48,17 +49,14 @@ pub record StruckOut (run : List Motor) (count line node : ℕ) (after : List Mo
   pub its-place-is-given-back : n + 1 ≡ count
 
 pub record Register : Type 0 where
-  pub sound-exactly-when-row-19-does-not-apply : (run : List Motor) (count : ℕ) → RegisterInRange run count ↔ (soundOf run count ≡ true)
+  pub a-run-of-zeros-holds-no-motor : RegisterInRange noMotors 0
   pub found-exactly-when-it-stands-in-the-run :
-      (run : List Motor) (count : ℕ) → soundOf run count ≡ true → (line node : ℕ) (m : Motor)
+      (run : List Motor) (count : ℕ) → RegisterInRange run count → (line node : ℕ) (m : Motor)
       → (found run count line node ≡ some m)
       ↔ ((place : ℕ) × ((place < count) × ((at run place ≡ m) × ((m .line ≡ line) × (m .node ≡ node)))))
-  pub records-ascend-by-line-then-NodeID :
-      (run : List Motor) (count : ℕ) → soundOf run count ≡ true → (first later : ℕ) → first < later → later < count
-      → Before (getD (held run count) first zeros) (getD (held run count) later zeros)
-  pub every-record-held-is-in-range :
-      (run : List Motor) (count : ℕ) → soundOf run count ≡ true → (place : ℕ) → place < count
-      → InRange (getD (held run count) place zeros)
+  pub the-count-is-the-records-held :
+      (run : List Motor) (count : ℕ) → RegisterInRange run count → (place : ℕ) → place < 256
+      → (at run place .node ≢ 0) ↔ (place < count)
   pub filed-exactly-when-fileable :
       (run : List Motor) (count line : ℕ) (b : List ℕ)
       → Fileable run count line b ↔ ((n : ℕ) × (filedOf run count line b .answer ≡ Count n))
@@ -71,10 +69,10 @@ pub record Register : Type 0 where
   pub what-is-struck-out :
       (run : List Motor) (count line node n : ℕ) → struckOf run count line node .answer ≡ Count n
       → StruckOut run count line node (struckOf run count line node .motors) n
-  pub the-count-is-the-records-held : (run : List Motor) (count : ℕ) → soundOf run count ≡ true → count ≡ occupied run
+  -- row 19 never applies after a call, done or refused: in order, in range, zeros behind the records held
   pub register-once-sound-always-sound :
-      (run : List Motor) (count line : ℕ) (b : List ℕ) → soundOf run count ≡ true
-      → soundOf (filedOf run count line b .motors) (countAfter count (filedOf run count line b .answer)) ≡ true
+      (run : List Motor) (count line : ℕ) (b : List ℕ) → RegisterInRange run count
+      → RegisterInRange (filedOf run count line b .motors) (heldAfter count (filedOf run count line b .answer))
   pub struck-out-still-sound :
-      (run : List Motor) (count line node : ℕ) → soundOf run count ≡ true
-      → soundOf (struckOf run count line node .motors) (countAfter count (struckOf run count line node .answer)) ≡ true
+      (run : List Motor) (count line node : ℕ) → RegisterInRange run count
+      → RegisterInRange (struckOf run count line node .motors) (heldAfter count (struckOf run count line node .answer))
