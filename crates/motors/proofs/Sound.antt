@@ -51,7 +51,7 @@ same-fields : {line line′ node node′ mark mark′ pulse pulse′ percent per
 same-fields a b c d e f = rw (a, b, c, d, e, f)
 
 -- A blank place is the record of zeros.
-pub blank-is-zeros : (m : Motor) → blankOf m ≡ true → m ≡ zeros
+blank-is-zeros : (m : Motor) → blankOf m ≡ true → m ≡ zeros
 unfolding blankOf unreadPart
 blank-is-zeros m e =
     let l = passed-both (eqb (m .line) 0) _ e in
@@ -61,7 +61,7 @@ blank-is-zeros m e =
     let q = passed-both (eqb (m .percent) 0) _ (p .1) in
     same-fields (eqb-true _ _ (l .0)) (eqb-true _ _ (n .0)) (eqb-true _ _ (k .0)) (eqb-true _ _ (p .0)) (eqb-true _ _ (q .0)) (eqb-true _ _ (q .1))
 
-pub zeros-blank : blankOf zeros ≡ true
+zeros-blank : blankOf zeros ≡ true
 unfolding blankOf unreadPart
 zeros-blank = refl
 

@@ -1,6 +1,6 @@
 -- The register: a run of places with a count (document 01, "The register", row 19).
 -- Assumes nothing.
-use Prim.Native.Nat.{ℕ, suc, _≤_}
+use Prim.Native.Nat.{ℕ, _≤_}
 use mathlib.Core.Path.{_≡_}
 use mathlib.Core.Bool.{Bool, true, false}
 use mathlib.Core.List.{List, [], _∷_}
@@ -66,8 +66,3 @@ pub record Sound (run : List Motor) (count : ℕ) : Type 0 where
   pub all-right : All Right (take count run)
   pub ascending : Ascending byLineAndNode (take count run)
   pub zeros-behind : run ≡ filled (take count run)
-
--- The number of records held: of places that are not all zeros.
-unfoldable pub occupied : List Motor → ℕ
-occupied [] = 0
-occupied (m ∷ l) = if blankOf m then occupied l else suc (occupied l)
