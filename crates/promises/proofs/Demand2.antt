@@ -69,7 +69,7 @@ positions =
       from-100-percent-on-the-travel = λ k travel h. ap (λ (p : Pulse). p .0) (pulse-down-limit k travel h);
       percent-to-pulse-and-back = there-and-back;
       a-share-is-rounded-down = λ i n h. ap (λ (k : Percent). k .0) (share-to-n i n h);
-      beyond-n-it-is-100-percent = λ i n h. ap (λ (k : Percent). k .0) (share-above-n i n h);
+      beyond-n-a-share-is-100-percent = λ i n h. ap (λ (k : Percent). k .0) (share-above-n i n h);
     }
 
 pub kept : Demand2

@@ -85,7 +85,7 @@ pub events : Events
 events =
     record {
       set-up-gives-the-fresh-node = λ s r. (set-up-done s r, fresh-in-range s r);
-      refused-settings-give-it-too = λ s r. set-up-node s;
+      refused-settings-give-a-fresh-node-too = λ s r. set-up-node s;
       a-fresh-node-is-as-after-power-up = powered-up-as-set-up;
       a-motor-that-reaches-its-target-stops-there = λ n p target s h. stops n p (is-sound n s) h target;
       any-other-pulse-is-the-position-alone = λ n p s. goes-on n p (is-sound n s);

@@ -124,13 +124,13 @@ module _ (n : ℕ) (travel : Pulse) where
 pub sixteen-ips : SixteenIps
 sixteen-ips =
     record {
-      an-IP-is-had-by-its-number = by-number;
+      an-IP-is-found-by-its-number = by-number;
       no-other-number-is-set = λ f i h. rw (no-number i h);
       no-other-number-can-be-set = λ f i x h. rw (no-number i h);
-      however-set-they-are-sixteen = with-ip-sixteen;
+      setting-one-leaves-sixteen = with-ip-sixteen;
       the-first-IP-at-the-position-is-reported = λ f position i n. the-first f position n i;
       FFh-exactly-when-none-is-at-the-position = FFh-exactly-when;
       IPs-to-n-share-the-travel = to-n;
       the-rest-are-unset = beyond-n;
-      shared-out-they-are-sixteen = shared-out-sixteen;
+      sharing-out-leaves-sixteen = shared-out-sixteen;
     }

@@ -70,7 +70,7 @@ motorPoweredUp n = withDrive n (drive (n .drive .position) Still 0xFF 0 0xFF fal
 pub record Events : Type 0 where
   pub set-up-gives-the-fresh-node : (s : Settings) → SettingsInRange s
       → (setUp s ≡ done (freshNode s)) × BoardInRange (freshNode s)
-  pub refused-settings-give-it-too : (s : Settings) → ¬ SettingsInRange s → setUp s .node ≡ freshNode s
+  pub refused-settings-give-a-fresh-node-too : (s : Settings) → ¬ SettingsInRange s → setUp s .node ≡ freshNode s
   pub a-fresh-node-is-as-after-power-up : (s : Settings) → SettingsInRange s → afterPowerUp (setUp s .node) ≡ setUp s
   pub a-motor-that-reaches-its-target-stops-there :
       (n : Node) (p target : Pulse) → BoardInRange n → p .0 ≤ n .settings .travel .0

@@ -21,10 +21,10 @@ NoneBelow number f position = (lower : ℕ) → 1 ≤ lower → lower < number �
 -- Of sixteen IPs, as all favourites of the code have.
 pub record SixteenIps : Type 0 where
   -- one of them, by its number
-  pub an-IP-is-had-by-its-number : (f : Favourites) (i : IpIndex) → 1 ≤ i .0 → i .0 ≤ 16 → ipAt f i ≡ ipOf f (i .0)
+  pub an-IP-is-found-by-its-number : (f : Favourites) (i : IpIndex) → 1 ≤ i .0 → i .0 ≤ 16 → ipAt f i ≡ ipOf f (i .0)
   pub no-other-number-is-set : (f : Favourites) (i : IpIndex) → (i .0 < 1) ⊎ (16 < i .0) → ipAt f i ≡ Unset
   pub no-other-number-can-be-set : (f : Favourites) (i : IpIndex) (x : Ip) → (i .0 < 1) ⊎ (16 < i .0) → withIp f i x ≡ f
-  pub however-set-they-are-sixteen : (f : Favourites) (i : IpIndex) (x : Ip) → length (f .slots) ≡ 16
+  pub setting-one-leaves-sixteen : (f : Favourites) (i : IpIndex) (x : Ip) → length (f .slots) ≡ 16
       → length (withIp f i x .slots) ≡ 16
   -- the one reported
   pub the-first-IP-at-the-position-is-reported :
@@ -38,4 +38,4 @@ pub record SixteenIps : Type 0 where
       (n : ℕ) (travel : Pulse) (i : ℕ) → 1 ≤ i → i ≤ n → i ≤ 16
       → ipOf (sharedOut n travel) i ≡ At (pulseOfPercent (percent (100 * i / (n + 1))) travel)
   pub the-rest-are-unset : (n : ℕ) (travel : Pulse) (i : ℕ) → n < i → i ≤ 16 → ipOf (sharedOut n travel) i ≡ Unset
-  pub shared-out-they-are-sixteen : (n : ℕ) (travel : Pulse) → length (sharedOut n travel .slots) ≡ 16
+  pub sharing-out-leaves-sixteen : (n : ℕ) (travel : Pulse) → length (sharedOut n travel .slots) ≡ 16

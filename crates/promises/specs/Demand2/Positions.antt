@@ -27,4 +27,4 @@ pub record Positions : Type 0 where
       → percentOfPulse (pulseOfPercent k travel) travel ≡ k
   -- IPs that share the travel
   pub a-share-is-rounded-down : (i : IpIndex) (n : ℕ) → i .0 ≤ n → shareOf i n .0 ≡ 100 * i .0 / (n + 1)
-  pub beyond-n-it-is-100-percent : (i : IpIndex) (n : ℕ) → n < i .0 → shareOf i n .0 ≡ 100
+  pub beyond-n-a-share-is-100-percent : (i : IpIndex) (n : ℕ) → n < i .0 → shareOf i n .0 ≡ 100
