@@ -134,7 +134,7 @@ one-ip n sixteen i x l u =
 shared-out : (n : Node) (count : ℕ) → count ≤ 16 → SharedOut n (withFavourites n (sharedOut count (n .settings .travel))) count
 shared-out n count few =
     let travel = n .settings .travel in
-    let sixteen = sixteen-ips .shared-out-they-are-sixteen count travel in
+    let sixteen = sixteen-ips .sharing-out-leaves-sixteen count travel in
     record {
       IPs-alone = record { same-settings = refl; same-motor = refl; same-lock = refl; sixteen-again = sixteen };
       to-the-count = λ i l u. sixteen-ips .IPs-to-n-share-the-travel count travel i l u (omega (arith, u, few));
