@@ -192,7 +192,8 @@ no-ip : (f : Favourites) (function index value : ℕ) → SetsAnIp function inde
     → (findsItsIp f (orderOf function (ip index) value) ≡ false) ↔ ((function ≡ 0) × (ipOf f index ≡ Unset))
 no-ip f function index value (inl (four, (l, u))) =
     let at = sharing function (ip index) value four in
-    (λ e. absurd (false≢true (sym (sym (ap (findsItsIp f) at) ∙ e) ∙ rw (le-ltb value 1 l, le-ltb 16 value u))), λ (z, u′). absurd (omega (arith, four, z)))
+    let set : findsItsIp f (orderOf function (ip index) value) ≡ true = ap (findsItsIp f) at ∙ rw (le-ltb value 1 l, le-ltb 16 value u) in
+    (λ e. absurd (false≢true (sym e ∙ set)), λ (z, u′). absurd (omega (arith, four, z)))
 no-ip f function index value (inr ((l, u), inl zero)) =
     let at : findsItsIp f (orderOf function (ip index) value) ≡ isSet (ipOf f index) =
     ap (findsItsIp f) (deleting function (ip index) value (is-number index .0 (l, u)) zero) ∙ ap isSet (ip-at-is f index l u) in
@@ -247,7 +248,8 @@ module _ (n : Node) (d : List ℕ) where
   lock-alike =
       let refusing = not-admitted n (byteAt d 1) in
       as-it-is λ short.
-      in-other-words (fails-exactly-when (isIn (byteAt d 0) lockFunctions) (is-in (byteAt d 0) lockFunctions, one-of (byteAt d 0) lockFunctions)) λ known.
+      let function = byteAt d 0 in
+      in-other-words (fails-exactly-when (isIn function lockFunctions) (is-in function lockFunctions, one-of function lockFunctions)) λ known.
       in-other-words (λ (h, r). (h, refusing .0 r), λ (h, r). (h, refusing .1 r)) λ admitted. at-the-end
 
   group-alike : (least : ℕ) → Alike (numbered codeNumber (refusals n (groupCodes least d (byteAt d 0)))) (groupRows least d)

@@ -62,7 +62,9 @@ module _ (n : Node) (g : Groups) (b : List ℕ) (a : Arrives n g b) where
   cameTo = outcomeOf n g (source b) (message b) (dataOf b)
 
   turned : (o : Outcome) → cameTo ≡ o → turnOf n g b ≡ answered (n .settings) (headerOf b) o
-  turned o e = meant-is-carried-out n g b (a .in-range) (rules-exactly-when b .0 (a .is-frame)) (a .is-meant) ∙ ap (answered (n .settings) (headerOf b)) e
+  turned o e =
+      meant-is-carried-out n g b (a .in-range) (rules-exactly-when b .0 (a .is-frame)) (a .is-meant)
+      ∙ ap (answered (n .settings) (headerOf b)) e
 
   -- An answer that goes out only with the ACK bit.
   module _ (after : Node) (change : Change) (m : ℕ) (content : List ℕ) (named : m < 255) (few : length content ≤ 20) (bytes : Bytes content) where

@@ -30,7 +30,14 @@ address number = record { 0 = number }
 -- A motor, a lock, a place for an IP.
 abbrev pub drive : Pulse → Motion → (direction source cause : ℕ) → (blocked : Bool) → Drive
 drive position motion direction source cause blocked =
-    record { position = position; motion = motion; direction = direction; source = source; cause = cause; blocked = blocked }
+    record {
+      position = position;
+      motion = motion;
+      direction = direction;
+      source = source;
+      cause = cause;
+      blocked = blocked;
+    }
 
 abbrev pub lock : (locked : Bool) → (holder : Address) → (priority : ℕ) → (saved : Bool) → Lock
 lock locked holder priority saved = record { locked = locked; holder = holder; priority = priority; saved = saved }

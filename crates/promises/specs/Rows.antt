@@ -126,21 +126,25 @@ pub record Rows : Type 1 where
   -- the line reader
   pub step :
       (r : Reader) (byte silence : ℕ)
-      → FirstOf (9 when (¬ ReaderInRange r) ∷ in-case (30 ≤ silence) (openRows r)) (lineNumber (stepOf r byte silence .answer))
+      → FirstOf (9 when (¬ ReaderInRange r) ∷ in-case (30 ≤ silence) (openRows r))
+      (lineNumber (stepOf r byte silence .answer))
   pub close : (r : Reader) → FirstOf (9 when (¬ ReaderInRange r) ∷ openRows r) (lineNumber (closeOf r .answer))
   -- a run: behind rows 9, 7 and 8 as its single steps, 0 or one of rows 1 to 6
   pub run :
       (r : Reader) (bytes silences : List ℕ) (place : ℕ)
-      → First (λ given. IsOneOf given (0 ∷ noFrame)) (9 when (¬ ReaderInRange r) ∷ 7 when (length bytes ≢ length silences) ∷ 8 when (length bytes < place) ∷ [])
+      → First (λ given. IsOneOf given (0 ∷ noFrame))
+      (9 when (¬ ReaderInRange r) ∷ 7 when (length bytes ≢ length silences) ∷ 8 when (length bytes < place) ∷ [])
       (lineNumber (ranOf r bytes silences place .stepped .answer))
   -- the board
   pub set-up : (s : Settings) → FirstOf (32 when (¬ SettingsInRange s) ∷ []) (eventNumber (setUp s .verdict))
   pub at-pulse :
       (n : Node) (p : Pulse)
-      → FirstOf (33 when (¬ BoardInRange n) ∷ 30 when (n .settings .travel .0 < p .0) ∷ []) (eventNumber (afterPulse n p .verdict))
+      → FirstOf (33 when (¬ BoardInRange n) ∷ 30 when (n .settings .travel .0 < p .0) ∷ [])
+      (eventNumber (afterPulse n p .verdict))
   pub blocked :
       (n : Node) (cause : ℕ)
-      → FirstOf (33 when (¬ BoardInRange n) ∷ 31 when ((cause ≢ 0x20) × ((cause ≢ 0x21) × (cause ≢ 0x22))) ∷ []) (eventNumber (afterBlocked n cause .verdict))
+      → FirstOf (33 when (¬ BoardInRange n) ∷ 31 when ((cause ≢ 0x20) × ((cause ≢ 0x21) × (cause ≢ 0x22))) ∷ [])
+      (eventNumber (afterBlocked n cause .verdict))
   pub cleared : (n : Node) → FirstOf (33 when (¬ BoardInRange n) ∷ []) (eventNumber (afterCleared n .verdict))
   pub power-up : (n : Node) → FirstOf (33 when (¬ BoardInRange n) ∷ []) (eventNumber (afterPowerUp n .verdict))
   pub on-frame : (n : Node) (g : Groups) (b : List ℕ)
@@ -150,8 +154,10 @@ pub record Rows : Type 1 where
       → FirstOf (fileRows run count line b) (registerNumber (filedOf run count line b .answer))
   pub strike-out :
       (run : List Motor) (count line node : ℕ)
-      → FirstOf (19 when (¬ RegisterInRange run count) ∷ 20 when (3 < line) ∷ 25 when (found run count line node ≡ none) ∷ []) (registerNumber (struckOf run count line node .answer))
+      → FirstOf (19 when (¬ RegisterInRange run count) ∷ 20 when (3 < line) ∷ 25 when (found run count line node ≡ none) ∷ [])
+      (registerNumber (struckOf run count line node .answer))
   pub read-form : (run : List Motor) (b : List ℕ) → FirstOf (readFormRows run b) (registerNumber (readOf run b .answer))
   pub write-form :
       (run : List Motor) (count : ℕ) (buffer : List ℕ)
-      → FirstOf (19 when (¬ RegisterInRange run count) ∷ 45 when (length buffer < 3 + 11 * count) ∷ []) (formNumber (writtenOf run count (length buffer)))
+      → FirstOf (19 when (¬ RegisterInRange run count) ∷ 45 when (length buffer < 3 + 11 * count) ∷ [])
+      (formNumber (writtenOf run count (length buffer)))

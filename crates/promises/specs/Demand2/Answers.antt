@@ -47,7 +47,8 @@ pub record Answers (n : Node) (g : Groups) (b : List ℕ) (t : Turn) : Type 1 wh
   pub the-lock-is-told :
       message b ≡ 0x26
       → Posted n b t 0x36
-      (oneIf (n .lock .locked) ∷ n .lock .holder .0 % 256 ∷ n .lock .holder .0 / 256 % 256 ∷ n .lock .holder .0 / 65536 % 256
+      (oneIf (n .lock .locked)
+      ∷ n .lock .holder .0 % 256 ∷ n .lock .holder .0 / 256 % 256 ∷ n .lock .holder .0 / 65536 % 256
       ∷ n .lock .priority ∷ oneIf (n .lock .saved) ∷ [])
   -- 40h: the address is the reply's own SOURCE
   pub the-address-is-told : message b ≡ 0x40 → Posted n b t 0x60 []

@@ -1,5 +1,5 @@
--- Demand 2, the board: which code refuses a message, and when (document 01, under the message table). Each table has the
--- codes of one message in order of checking.
+-- Demand 2, the board: which code refuses a message, and when (document 01, under the message table). Each table has
+-- the codes of one message in order of checking.
 -- Assumes nothing.
 use Prim.Native.Nat.{ℕ, _+_, _≤_, _<_}
 use mathlib.Core.Path.{_≡_}

@@ -52,7 +52,8 @@ pub record OneIp (n after : Node) (number : ℕ) (x : Ip) : Type 0 where
   pub IPs-alone : IpsAlone n after
   pub the-IP-named : ipOf (after .favourites) number ≡ x
   pub every-other-IP :
-      (other : ℕ) → 1 ≤ other → other ≤ 16 → other ≢ number → ipOf (after .favourites) other ≡ ipOf (n .favourites) other
+      (other : ℕ) → 1 ≤ other → other ≤ 16 → other ≢ number → ipOf (after .favourites) other
+      ≡ ipOf (n .favourites) other
 
 -- So many IPs share the travel: IP i is at percent 100 × i ÷ (count + 1) rounded down, the rest are unset.
 pub record SharedOut (n after : Node) (count : ℕ) : Type 0 where
@@ -68,7 +69,8 @@ pub record Effects (n : Node) (b : List ℕ) (t : Turn) : Type 1 where
   -- 02h
   pub a-running-motor-is-stopped :
       message b ≡ 0x02 → Accepted (stopRows n (dataOf b)) → (target : Pulse) → n .drive .motion ≡ Running target
-      → CarriedOut n b t (withDrive n (drive (n .drive .position) Still (n .drive .direction) 1 1 (n .drive .blocked))) Keep
+      → CarriedOut n b t
+      (withDrive n (drive (n .drive .position) Still (n .drive .direction) 1 1 (n .drive .blocked))) Keep
   pub a-STOP-of-a-motor-at-rest-changes-nothing :
       message b ≡ 0x02 → Accepted (stopRows n (dataOf b)) → n .drive .motion ≡ Still → CarriedOut n b t n Keep
   -- 03h

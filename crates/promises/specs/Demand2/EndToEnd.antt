@@ -26,7 +26,8 @@ pub record FoundAsTold (n : Node) (line : ℕ) (after : Next) : Type 0 where
   pub motor : Motor
   pub is-found : found (after .motors) count line (n .settings .id .0) ≡ some motor
   pub as-told :
-      Holds motor line (n .settings .id .0) 1 (n .drive .position .0) (percentOfPulse (n .drive .position) (n .settings .travel) .0)
+      Holds motor line (n .settings .id .0) 1 (n .drive .position .0)
+      (percentOfPulse (n .drive .position) (n .settings .travel) .0)
       (reportedIp (n .favourites) (n .drive .position))
 
 pub record EndToEnd : Type 0 where

@@ -1,5 +1,5 @@
--- Demand 2, the board: the four things that a frame meant for it can come to, whole: the board afterwards, the change of
--- the group table, and what is said.
+-- Demand 2, the board: what a frame meant for it can come to, whole: the board afterwards, the change of the group
+-- table, and what is said.
 -- Assumes nothing.
 use Prim.Native.Nat.{ℕ}
 use mathlib.Core.Path.{_≡_}
