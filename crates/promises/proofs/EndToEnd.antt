@@ -7,7 +7,6 @@ use mathlib.Core.Logic.{_⊎_, inl, inr}
 use mathlib.Core.List.{List, [], _∷_}
 use lib.ListN.{length, getD, length-take}
 use Rattle.meaning.specs.Choice.{either}
-use Rattle.frame.proofs.Frames.{frame-exactly-when}
 use Rattle.travel.specs.Position.{percentOfPulse, percent-at-most-100}
 use Rattle.travel.specs.declared.Pulse.{Pulse}
 use Rattle.board.specs.Favourites.{isAt, firstAt, reportedIp}
@@ -24,6 +23,7 @@ use Rattle.promises.specs.RegisterInRange.{RegisterInRange}
 use Rattle.promises.specs.Fileable.{Fileable}
 use Rattle.promises.specs.Demand2.Effects.{Arrives}
 use Rattle.promises.specs.Demand2.EndToEnd.{FoundAsTold, EndToEnd}
+use Rattle.promises.proofs.Frames.{rules-exactly-when}
 use Rattle.promises.proofs.Answers.{answers}
 use Rattle.promises.proofs.ReportBytes.{report-byte}
 use Rattle.promises.proofs.Fileable.{filed-exactly-when}
@@ -66,7 +66,7 @@ module _ (n : Node) (g : Groups) (b : List ℕ) (a : Arrives n g b) (t : Typed n
         let settings = a .in-range .settings-in-range in
         record {
           sound-register = r;
-          is-frame = frame-exactly-when told .1 (is-reply .is-a-frame);
+          is-frame = rules-exactly-when told .1 (is-reply .is-a-frame);
           from-line-0-to-3 = few;
           sender-from-000001h = rw (is-reply .from-the-node) (settings .NodeID-from-000001h);
           sender-to-FFFEFFh = rw (is-reply .from-the-node) (settings .NodeID-to-FFFEFFh);

@@ -30,6 +30,7 @@ use Rattle.motors.proofs.Shown.{seen}
 use Rattle.motors.proofs.Full.{never-both, taken-exactly-when}
 use Rattle.promises.specs.Wire.{raw}
 use Rattle.promises.specs.Fileable.{IsHeld, Fileable, Reports, Strikeable}
+use Rattle.promises.proofs.Frames.{to-rules, from-rules}
 use Rattle.promises.proofs.Held.{found-some}
 use Rattle.promises.proofs.ReportBytes.{report-byte}
 
@@ -90,7 +91,7 @@ module _ (run : List Motor) (count line : ℕ) (b : List ℕ) where
   unfolding reported
   shows f =
       let m = shownBy line (headerOf b) (dataOf b) in
-      (m, as-read (f .is-frame) ∙ no-row-applies table (Seen m) (no-row f))
+      (m, as-read (from-rules (f .is-frame)) ∙ no-row-applies table (Seen m) (no-row f))
 
   fileable-is-filed : Fileable run count line b → IsFiled
   fileable-is-filed f =
@@ -145,7 +146,7 @@ module _ (run : List Motor) (count line : ℕ) (b : List ℕ) where
   facts (ok, (f, (place, (few, (sender, (named, (reading, end))))))) =
       record {
         sound-register = sound-exactly-when run count .1 ok;
-        is-frame = f;
+        is-frame = to-rules f;
         from-line-0-to-3 = few;
         sender-from-000001h = sender .0 .0;
         sender-to-FFFEFFh = sender .0 .1;

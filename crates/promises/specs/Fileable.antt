@@ -6,10 +6,9 @@ use mathlib.Core.Path.{_≡_}
 use mathlib.Core.Logic.{_≢_, _⊎_}
 use mathlib.Core.List.{List}
 use mathlib.Core.Option.{some}
-use Rattle.frame.specs.Reading.{IsFrame}
 use Rattle.motors.specs.Register.{found}
 use Rattle.motors.specs.declared.motor.Motor.{Motor}
-use Rattle.promises.specs.Wire.{raw, message, source, destination, dataCount}
+use Rattle.promises.specs.Wire.{raw, message, source, destination, dataCount, FrameRules}
 use Rattle.promises.specs.RegisterInRange.{RegisterInRange}
 
 -- A 0Dh with a reading in it (row 23).
@@ -27,7 +26,7 @@ pub record Fileable (run : List Motor) (count line : ℕ) (b : List ℕ) : Type 
   -- row 19: 256 places, at most 256 records, in order, zeros behind them
   pub sound-register : RegisterInRange run count
   -- rows 1 to 6
-  pub is-frame : IsFrame b
+  pub is-frame : FrameRules b
   -- row 20
   pub from-line-0-to-3 : line ≤ 3
   -- row 21

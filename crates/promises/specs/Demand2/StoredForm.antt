@@ -3,13 +3,14 @@
 use Prim.Native.Nat.{ℕ, _+_, _*_, _/_, _%_, _≤_, _<_}
 use mathlib.Core.Path.{_≡_}
 use mathlib.Core.List.{List, [], _∷_, _++_}
-use lib.ListN.{length, getD, take, drop}
+use lib.ListN.{length, take, drop}
 use Rattle.motors.specs.declared.{motor.Motor.{Motor}, answer.Answer.the-variants.{Count}}
 use Rattle.form.specs.{
   Reading.{readOf},
   Writing.{writtenOf, bufferAfter as formWritten},
   declared.writing.Written.the-variants.{Bytes as Written},
 }
+use Rattle.promises.specs.Wire.{Bytes}
 use Rattle.promises.specs.RegisterInRange.{Holds, at, RegisterInRange}
 use Rattle.promises.specs.StoredBytes.{
   storedCount,
@@ -52,8 +53,7 @@ pub record StoredForm : Type 0 where
       → readOf other (take (3 + 11 * count) (formWritten run count buffer))
       ≡ record { motors = run; answer = Count count }
   pub what-is-read-is-written :
-      (run : List Motor) (b : List ℕ) (n : ℕ) → readOf run b .answer ≡ Count n
-      → ((place : ℕ) → place < length b → getD b place 0 < 256)
+      (run : List Motor) (b : List ℕ) (n : ℕ) → readOf run b .answer ≡ Count n → Bytes b
       → (buffer : List ℕ) → length b ≤ length buffer
       → (writtenOf (readOf run b .motors) n (length buffer) ≡ Written (length b))
       × (formWritten (readOf run b .motors) n buffer ≡ b ++ drop (length b) buffer)
