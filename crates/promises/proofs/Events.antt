@@ -26,7 +26,8 @@ use Rattle.meaning.specs.Membership.{IsOneOf, as-first, as-later}
 use Rattle.meaning.specs.Choice.{either}
 use Rattle.promises.specs.BoardParts.{drive, withDrive, withLock}
 use Rattle.promises.specs.BoardInRange.{SettingsInRange, BoardInRange}
-use Rattle.promises.specs.Demand2.Events.{Reached, done, freshNode, motorPoweredUp, Events}
+use Rattle.promises.specs.Demand2.Events.{Reached, done, motorPoweredUp, Events}
+use Rattle.promises.specs.BoardParts.{freshNode}
 use Rattle.promises.proofs.BoardInRange.{settings-exactly-when, in-range, is-sound}
 
 reached-so : (direction : ℕ) (target p : Pulse) → Reached direction target p → reached (Running target) direction p ≡ true

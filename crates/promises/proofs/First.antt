@@ -1,10 +1,13 @@
 -- The first row that applies: a table's answer has its number; and rows together.
 -- Assumes nothing.
-use Prim.Native.Nat.{ℕ}
+use Prim.Native.Nat.{ℕ, zero, suc, _<_, suc-le-suc}
+use native.Mathlib.Nat.{le-of-suc-le-suc}
+use native.Mathlib.Omega.{arith}
 use mathlib.Core.Path.{_≡_, refl, _∙_, sym}
 use mathlib.Core.Logic.{_↔_}
 use mathlib.Core.Bool.{Bool, true, false, false≢true}
 use mathlib.Core.List.{List, [], _∷_, _++_}
+use lib.ListN.{length, getD}
 use Rattle.meaning.specs.Choice.{if_then_else_}
 use Rattle.meaning.specs.Tests.{Test}
 use Rattle.meaning.specs.Tables as tables
@@ -118,3 +121,13 @@ one-number rows a b (applies f) (passes n l) = absurd (n f)
 one-number rows a b (passes n k) (applies g) = absurd (n g)
 one-number rows a b (passes {rows = more} n k) (passes m l) = one-number more a b k l
 one-number rows a b (none-applies e) (none-applies f) = e ∙ sym f
+
+-- One of a list stands at a place of it.
+pub stands-at : (x : ℕ) (l : List ℕ) → IsOneOf x l → (place : ℕ) × ((place < length l) × (getD l place 0 ≡ x))
+stands-at x (k ∷ l) (as-first e) = (0, (omega arith, sym e))
+stands-at x (k ∷ l) (as-later i) = let (place, (h, e)) = stands-at x l i in (suc place, (suc-le-suc h, e))
+
+pub standing-is-one : (x : ℕ) (l : List ℕ) (place : ℕ) → place < length l → getD l place 0 ≡ x → IsOneOf x l
+standing-is-one x [] place h e = absurd (omega arith)
+standing-is-one x (k ∷ l) zero h e = as-first (sym e)
+standing-is-one x (k ∷ l) (suc place) h e = as-later (standing-is-one x l place (le-of-suc-le-suc h) e)

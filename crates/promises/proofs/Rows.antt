@@ -99,6 +99,8 @@ use Rattle.promises.proofs.First.{
   case-fails,
   within,
   one-number,
+  stands-at,
+  standing-is-one,
 }
 
 -- ---- frames
@@ -331,6 +333,7 @@ write-form run count buffer =
 pub rows : Rows
 rows =
     record {
+      one-of-a-list = λ x l. (stands-at x l, λ (place, (h, e)). standing-is-one x l place h e);
       one-number = one-number;
       read = read;
       write = write;

@@ -2,15 +2,16 @@
 -- those of the structs in the source.
 -- Assumes nothing.
 use Prim.Native.Nat.{ℕ, _-_}
-use mathlib.Core.Bool.{Bool}
+use mathlib.Core.Bool.{Bool, false}
 use mathlib.Core.List.{List, [], _∷_}
 use lib.ListN.{getD, replicate}
 use Rattle.frame.specs.declared.address.Address.{Address}
 use Rattle.travel.specs.declared.{IpIndex.{IpIndex}, Percent.{Percent}, Pulse.{Pulse}}
 use Rattle.board.specs.declared.{
-  drive.{Drive.{Drive}, Motion.{Motion}},
+  drive.{Drive.{Drive}, Motion.{Motion}, Motion.the-variants.{Still}},
   favourites.{Favourites.{Favourites}, Ip.{Ip}, Ip.the-variants.{Unset}, Slot.{Slot}},
   lock.Lock.{Lock},
+  settings.Settings.{Settings},
   whole.Node.{Node},
 }
 
@@ -65,3 +66,14 @@ withFavourites n f = record { settings = n .settings; drive = n .drive; favourit
 
 abbrev pub withLock : Node → Lock → Node
 withLock n l = record { settings = n .settings; drive = n .drive; favourites = n .favourites; lock = l }
+
+-- A fresh node: pulse 0, unlocked, all else empty, as after power-up. Fields of a motor: position, motion, direction,
+-- source, cause, blocked; of a lock: locked, holder, priority, saved.
+abbrev pub freshNode : Settings → Node
+freshNode s =
+    record {
+      settings = s;
+      drive = drive (pulse 0) Still 0xFF 0 0xFF false;
+      favourites = noIps;
+      lock = lock false (address 0) 0 false;
+    }

@@ -1,9 +1,9 @@
--- Document 01's number of every answer: that of its refusal (`numberOf`, the paper's table), 0 where nothing is
+-- Document 01's number of every refusal, row by row, and of every answer: that of its refusal, 0 where nothing is
 -- refused.
 -- Assumes nothing.
 use Prim.Native.Nat.{ℕ}
 use mathlib.Core.List.{List, [], _∷_}
-use Rattle.refusal.specs.Number.{numberOf}
+use Rattle.refusal.specs.declared.Refusal.{Refusal}
 use Rattle.frame.specs.declared.reading.Reading.{Reading}
 use Rattle.frame.specs.declared.writing.Writing.{Writing}
 use Rattle.line.specs.declared.reader.Answer as line
@@ -11,6 +11,40 @@ use Rattle.board.specs.declared.events.Verdict.{Verdict}
 use Rattle.node.specs.declared.turn.Answer as turn
 use Rattle.motors.specs.declared.answer.Answer as motors
 use Rattle.form.specs.declared.writing.Written.{Written}
+
+-- The table "Numbers given back".
+abbrev pub numberOf : Refusal → ℕ
+numberOf Refusal.TooShort = 1
+numberOf Refusal.TooLong = 2
+numberOf Refusal.Extended = 3
+numberOf Refusal.WrongLength = 4
+numberOf Refusal.WrongChecksum = 5
+numberOf Refusal.ReservedMessage = 6
+numberOf Refusal.UnequalRuns = 7
+numberOf Refusal.PlacePastEnd = 8
+numberOf Refusal.BrokenReader = 9
+numberOf Refusal.AddressTooLarge = 10
+numberOf Refusal.TypeTooLarge = 11
+numberOf Refusal.TooMuchData = 12
+numberOf Refusal.ReservedToWrite = 13
+numberOf Refusal.NoRoom = 14
+numberOf Refusal.BrokenRegister = 19
+numberOf Refusal.NoSuchLine = 20
+numberOf Refusal.NoMotor = 21
+numberOf Refusal.NotForRegister = 22
+numberOf Refusal.BadReading = 23
+numberOf Refusal.RegisterFull = 24
+numberOf Refusal.NotHeld = 25
+numberOf Refusal.BeyondTravel = 30
+numberOf Refusal.NotBlocking = 31
+numberOf Refusal.BadSettings = 32
+numberOf Refusal.BrokenNode = 33
+numberOf Refusal.NotFormOne = 40
+numberOf Refusal.TooManyMotors = 41
+numberOf Refusal.WrongFormLength = 42
+numberOf Refusal.BadContents = 43
+numberOf Refusal.BadBody = 44
+numberOf Refusal.NoRoomForForm = 45
 
 abbrev pub readNumber : Reading → ℕ
 readNumber (Reading.Frame header count) = 0

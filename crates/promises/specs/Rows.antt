@@ -2,8 +2,7 @@
 -- Assumes nothing.
 use Prim.Native.Nat.{ℕ, _+_, _-_, _*_, _≤_, _<_}
 use mathlib.Core.Path.{_≡_}
-use mathlib.Core.Logic.{_≢_, _⊎_}
-use mathlib.Core.Bool.{false}
+use mathlib.Core.Logic.{_≢_, _↔_, _⊎_}
 use mathlib.Core.List.{List, [], _∷_, _++_}
 use mathlib.Core.Option.{none}
 use lib.ListN.{length, getD, take}
@@ -116,6 +115,8 @@ readFormRows run b =
     ∷ []
 
 pub record Rows : Type 1 where
+  -- one of a list is what stands at a place of it
+  pub one-of-a-list : (x : ℕ) (l : List ℕ) → IsOneOf x l ↔ ((place : ℕ) × ((place < length l) × (getD l place 0 ≡ x)))
   -- a table of rows gives one number
   pub one-number : (rows : List Row) (a b : ℕ) → FirstOf rows a → FirstOf rows b → a ≡ b
   -- frames

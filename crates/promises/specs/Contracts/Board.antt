@@ -7,13 +7,14 @@ use lib.Dec.{leb}
 use lib.ListN.{replicate}
 use Rattle.meaning.specs.Choice.{if_then_else_}
 use Rattle.board.specs.{
-  Node.{fresh, sound},
+  Node.{sound},
   Events.{setUp, afterPulse, afterBlocked, afterCleared, afterPowerUp},
   Groups.{applied, inTable},
 }
 use Rattle.board.proofs as board
 use Rattle.board.proofs.settings.Settings as Settings
 use Rattle.board.proofs.whole.Node as Node
+use Rattle.promises.specs.BoardParts.{freshNode}
 use Rattle.promises.specs.Contracts.Says.{Says}
 use Rattle.promises.specs.Contracts.Drive.{running, DriveContracts}
 use Rattle.promises.specs.Contracts.Favourites.{FavouritesContracts}
@@ -32,7 +33,7 @@ pub record BoardContracts : Type 0 where
   -- The whole state: fresh, row 33, its status, one part changed.
   pub node-fresh-is :
       Says Node.fresh.Kinds.ps Node.fresh.Kinds.r Node.fresh.Reads.Pre Node.fresh.Reads.Post
-      (λ κs (settings, _). fresh settings)
+      (λ κs (settings, _). freshNode settings)
   pub is-sound-is :
       Says Node.is_sound.Kinds.ps Node.is_sound.Kinds.r Node.is_sound.Reads.Pre Node.is_sound.Reads.Post
       (λ κs (node, _). sound node)

@@ -1,7 +1,7 @@
 -- The contracts of `refusal`.
 -- Assumes nothing.
-use Rattle.refusal.specs.Number.{numberOf}
 use Rattle.refusal.proofs.Refusal as Refusal
+use Rattle.promises.specs.Numbers.{numberOf}
 use Rattle.promises.specs.Contracts.Says.{Says}
 
 pub record RefusalContracts : Type 0 where

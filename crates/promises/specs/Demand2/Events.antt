@@ -22,7 +22,7 @@ use Rattle.board.specs.{
   },
 }
 use Rattle.meaning.specs.Membership.{IsOneOf}
-use Rattle.promises.specs.BoardParts.{pulse, address, drive, lock, noIps, emptyTable, withDrive, withLock}
+use Rattle.promises.specs.BoardParts.{freshNode, address, drive, lock, emptyTable, withDrive, withLock}
 use Rattle.promises.specs.BoardInRange.{SettingsInRange, BoardInRange}
 use Rattle.promises.specs.Groups.{Groups, IsMember}
 
@@ -50,17 +50,6 @@ Reached direction target p = ((direction ≡ 1) × (p .0 ≤ target .0)) ⊎ ((d
 -- An event that is done, and the node that it leaves.
 abbrev pub done : Node → After
 done n = record { node = n; verdict = Done }
-
--- A fresh node: pulse 0, unlocked, all else empty, as after power-up. Fields of a motor: position, motion, direction,
--- source, cause, blocked; of a lock: locked, holder, priority, saved.
-abbrev pub freshNode : Settings → Node
-freshNode s =
-    record {
-      settings = s;
-      drive = drive (pulse 0) Still 0xFF 0 0xFF false;
-      favourites = noIps;
-      lock = lock false (address 0) 0 false;
-    }
 
 -- A board whose motor has its power back.
 abbrev pub motorPoweredUp : Node → Node

@@ -4,26 +4,20 @@ use Prim.Native.Nat.{ℕ}
 use mathlib.Core.Bool.{false}
 use mathlib.Core.List.{List, [], _∷_}
 use Rattle.board.specs.declared.{
-  drive.Motion.the-variants.{Still, Running},
+  drive.Motion.the-variants.{Running},
   groups.Change.the-variants.{Keep},
   whole.Node.{Node},
 }
 use Rattle.node.specs.Frames.{turnOf}
 use Rattle.promises.specs.Wire.{dataOf}
-use Rattle.promises.specs.BoardParts.{address, pulse, drive, lock, noIps, emptyTable, withDrive}
+use Rattle.promises.specs.BoardParts.{address, pulse, drive, emptyTable, withDrive, freshNode}
 use Rattle.promises.specs.Demand2.Turns.{CarriedOut}
 use Rattle.promises.specs.Demand2.Codes.{Accepted, moveRows}
 use Rattle.promises.specs.Demand2.Effects.{Arrives, AimedAt}
 
 -- A board just set up: 05:04:03, type 2, travel 1,000.
 abbrev pub newBoard : Node
-newBoard =
-    record {
-      settings = record { id = address 0x050403; kind = 2; travel = pulse 1000 };
-      drive = drive (pulse 0) Still 0xFF 0 0xFF false;
-      favourites = noIps;
-      lock = lock false (address 0) 0 false;
-    }
+newBoard = freshNode (record { id = address 0x050403; kind = 2; travel = pulse 1000 })
 
 -- MOVETO down from FF:FF:00 to it, with the ACK bit: raw 03 8F 02 00 FF FF 03 04 05 00 00 00 00.
 abbrev pub moveDown : List ℕ
