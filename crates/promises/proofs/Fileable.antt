@@ -53,7 +53,8 @@ module _ (run : List Motor) (count line : ℕ) (b : List ℕ) where
       let s = seen line b m e .1 in
       (s .on-its-line, s .of-the-sender)
 
-  answer-of : (x : Report) → soundOf run count ≡ true → reportOf line b ≡ x → filedOf run count line b .answer ≡ reportedBy entered run count x .answer
+  answer-of : (x : Report) → soundOf run count ≡ true → reportOf line b ≡ x
+      → filedOf run count line b .answer ≡ reportedBy entered run count x .answer
   answer-of x ok e = ap (λ (r : Report). filingOf entered run count r .answer) e ∙ ap (λ (y : Next). y .answer) (as-reported entered run count x ok)
 
   abbrev AReading : Type 0
@@ -125,7 +126,9 @@ module _ (run : List Motor) (count line : ℕ) (b : List ℕ) where
   no-row-applied (n, a) =
       by-test (soundOf run count)
       (λ ok. by-report ok (reportOf line b) refl (n, a))
-      (λ broken. absurd (never-both _ n Refusal.BrokenRegister a (ap (λ (y : Next). y .answer) (filed-by entered run count (reportOf line b) 0 broken))))
+      (λ broken.
+      let refused = ap (λ (y : Next). y .answer) (filed-by entered run count (reportOf line b) 0 broken) in
+      absurd (never-both _ n Refusal.BrokenRegister a refused))
 
   -- A 0Dh that is filed has the bytes of a reading.
   pub a-report-filed-is-long : IsFiled → message b ≡ 0x0D → 5 ≤ dataCount b

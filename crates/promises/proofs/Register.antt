@@ -27,7 +27,7 @@ use Rattle.motors.proofs.FilingLaws as filing
 use Rattle.motors.proofs.StrikingLaws.{the-motor-struck-out-is-gone, every-other-motor-stays, one-place-is-given-back}
 use Rattle.motors.proofs.StrikingLaws as striking
 use Rattle.promises.specs.RegisterInRange.{noMotor, noMotors, at, RegisterInRange}
-use Rattle.promises.specs.Demand2.Register.{Filed, StruckOut, Register}
+use Rattle.promises.specs.Demand2.Register.{heldAfter, Filed, StruckOut, Register}
 use Rattle.promises.proofs.Held.{found-some}
 use Rattle.promises.proofs.RegisterInRange.{zeros-hold, row-19, so-sound, found-exactly-when}
 use Rattle.promises.proofs.Readings.{read-from-the-bytes, named}
@@ -80,6 +80,10 @@ struck-out run count line node n e =
       its-place-is-given-back = omega (arith, one-place-is-given-back run count line node n e);
     }
 
+still-in-range : (run : List Motor) (count line : ℕ) (b : List ℕ) → RegisterInRange run count
+    → RegisterInRange (filedOf run count line b .motors) (heldAfter count (filedOf run count line b .answer))
+still-in-range run count line b r = row-19 _ _ (filing.a-sound-register-stays-sound run count line b (so-sound run count r))
+
 pub register : Register
 register =
     record {
@@ -90,6 +94,6 @@ register =
       what-is-filed = filed;
       struck-out-exactly-when-held = struck-exactly-when;
       what-is-struck-out = struck-out;
-      register-once-sound-always-sound = λ run count line b r. row-19 _ _ (filing.a-sound-register-stays-sound run count line b (so-sound run count r));
+      register-once-sound-always-sound = still-in-range;
       struck-out-still-sound = λ run count line node r. row-19 _ _ (striking.a-sound-register-stays-sound run count line node (so-sound run count r));
     }

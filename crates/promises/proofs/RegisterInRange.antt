@@ -78,13 +78,16 @@ module _ (run : List Motor) (count : ℕ) where
   pub at-held : (place : ℕ) → place < count → getD (held run count) place zeros ≡ at run place
   at-held place h = getD-take count run place zeros h
 
+  right-at : soundOf run count ≡ true → (place : ℕ) → place < count → rightOf (at run place) ≡ true
+  right-at ok place h = sym (ap rightOf (at-held place h)) ∙ each-record-is-right run count ok place h
+
   pub row-19 : soundOf run count ≡ true → RegisterInRange run count
   row-19 ok =
       let s = sound-is run count ok in
       record {
         of-256-places = s .of-256-places;
         at-most-256-motors = s .at-most-256;
-        every-record-held-is-in-range = λ place h. in-range (at run place) (sym (ap rightOf (at-held place h)) ∙ each-record-is-right run count ok place h);
+        every-record-held-is-in-range = λ place h. in-range (at run place) (right-at ok place h);
         records-ascend-by-line-then-NodeID =
             λ first later h k.
             rw (← at-held first (omega (arith, h, k)), ← at-held later k) (each-record-is-before-the-later-ones run count ok first later h k);
@@ -147,7 +150,8 @@ each-is-found o [] i a h = absurd (omega arith)
 each-is-found o (x ∷ l) zero a h = here o x l (o .key x) (o .itself (o .key x))
 each-is-found o (x ∷ l) (suc i) a h =
     let k = le-of-suc-le-suc h in
-    further o x l (o .key (getD l i zeros)) (before-is-another o (o .key x) (o .key (getD l i zeros)) (every-place-is-behind o zeros (o .key x) l a i k))
+    let later = o .key (getD l i zeros) in
+    further o x l later (before-is-another o (o .key x) later (every-place-is-behind o zeros (o .key x) l a i k))
     ∙ each-is-found o l i (behind-ascends o (o .key x) l a) k
 
 module _ (run : List Motor) (count : ℕ) (ok : soundOf run count ≡ true) (line node : ℕ) (m : Motor) where

@@ -299,8 +299,8 @@ module _ (run : List Motor) (count line : ℕ) (b : List ℕ) where
   reading : soundOf run count ≡ true → FirstOf (bundleRows b ++ reportRows run count line b) (reportNumber (reportOf line b))
   unfolding readingOf
   reading ok =
-      first-then (λ (x : Reading). reportNumber (reportBy line b x)) (bundleTable b) (Reading.Frame (headerOf b) (dataCount b)) (reportRows run count line b)
-      (λ facts. reporting ok)
+      first-then (λ (x : Reading). reportNumber (reportBy line b x)) (bundleTable b) (Reading.Frame (headerOf b) (dataCount b))
+      (reportRows run count line b) (λ facts. reporting ok)
 
 file : (run : List Motor) (count line : ℕ) (b : List ℕ) → FirstOf (fileRows run count line b) (left (filedOf run count line b))
 unfolding filingOf
@@ -324,7 +324,8 @@ read-form : (run : List Motor) (b : List ℕ) → FirstOf (readFormRows run b) (
 read-form run b = subst (λ (a : Answer). FirstOf (readFormRows run b) (registerNumber a)) (the-check-is-the-answer run b) (check-form run b)
 
 write-form : (run : List Motor) (count : ℕ) (buffer : List ℕ)
-    → FirstOf (19 when (¬ RegisterInRange run count) ∷ 45 when (length buffer < 3 + 11 * count) ∷ []) (formNumber (writtenOf run count (length buffer)))
+    → FirstOf (19 when (¬ RegisterInRange run count) ∷ 45 when (length buffer < 3 + 11 * count) ∷ [])
+    (formNumber (writtenOf run count (length buffer)))
 unfolding writtenOf
 write-form run count buffer =
     let table = writeFormTable run count (length buffer) in
