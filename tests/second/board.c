@@ -20,7 +20,7 @@ void drop_lock(struct board *board)
     board->priority = 0;
 }
 
-/* "saved" itself, position, favourites and groups are kept. */
+/* "saved" itself, position, favourites, groups and label are kept. */
 void power_up(struct board *board)
 {
     stop_motor(board, SOURCE_INTERNAL, CAUSE_POWER_UP);
@@ -30,11 +30,14 @@ void power_up(struct board *board)
         drop_lock(board);
 }
 
-enum refusal set_up_board(struct board *board, uint32_t node_id, uint8_t type, uint16_t travel)
+/* A fresh label is sixteen spaces. */
+enum refusal set_up_board(struct board *board, uint32_t node_id, uint8_t type, uint16_t travel,
+                          const struct plate *plate)
 {
-    if (!is_node_id(node_id) || type < 1 || type > NODE_TYPE_LAST || travel < TRAVEL_LEAST)
+    if (!is_node_id(node_id) || type < 1 || type > NODE_TYPE_LAST || travel < TRAVEL_LEAST || !is_plate(plate))
         return SET_UP;
-    *board = (struct board){.node_id = node_id, .type = type, .travel = travel};
+    *board = (struct board){.node_id = node_id, .type = type, .travel = travel, .plate = *plate};
+    memset(board->label, SPACE, LABEL_LENGTH);
     power_up(board);
     return ACCEPTED;
 }

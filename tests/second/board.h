@@ -7,6 +7,7 @@
 #include <stdint.h>
 
 #include "frame.h"
+#include "plate.h"
 #include "refusal.h"
 #include "travel.h"
 
@@ -21,6 +22,7 @@ struct board {
     uint32_t node_id;
     uint8_t type;
     uint16_t travel;
+    struct plate plate;
 
     uint16_t position;
     bool running;
@@ -37,6 +39,7 @@ struct board {
 
     struct favourite favourites[FAVOURITES];
     uint32_t groups[GROUPS];
+    uint8_t label[LABEL_LENGTH];
 };
 
 enum { GOING_DOWN = 0, GOING_UP = 1, DIRECTION_UNKNOWN = 0xFF };
@@ -46,7 +49,8 @@ enum { CAUSE_REACHED = 0, CAUSE_COMMAND = 1, CAUSE_POWER_UP = 0xFF };
 void stop_motor(struct board *board, uint8_t source, uint8_t cause);
 void drop_lock(struct board *board);
 void power_up(struct board *board);
-enum refusal set_up_board(struct board *board, uint32_t node_id, uint8_t type, uint16_t travel);
+enum refusal set_up_board(struct board *board, uint32_t node_id, uint8_t type, uint16_t travel,
+                          const struct plate *plate);
 enum refusal at_pulse(struct board *board, uint16_t pulse);
 enum refusal blocked_by(struct board *board, uint8_t cause);
 bool is_for_board(const struct board *board, const struct header *header);

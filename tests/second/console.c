@@ -25,17 +25,38 @@ static bool no_board(const struct console *console, struct rows *rows)
     return !console->has_board;
 }
 
-static bool node_command(struct console *console, const struct word *words, struct rows *rows)
+/* Sets up a board by the first three words, with the plate given. */
+static bool set_up_with(struct console *console, const struct word *words, const struct plate *plate,
+                        struct rows *rows)
 {
     uint32_t node_id;
     uint8_t type;
     uint16_t travel;
     if (!read_id(&words[0], &node_id) || !read_u8(&words[1], &type) || !read_u16(&words[2], &travel))
         return false;
-    enum refusal refusal = set_up_board(&console->board, node_id, type, travel);
+    enum refusal refusal = set_up_board(&console->board, node_id, type, travel, plate);
     console->has_board = console->has_board || refusal == ACCEPTED;
     say_outcome(rows, refusal, "ready");
     return true;
+}
+
+static bool node_command(struct console *console, const struct word *words, struct rows *rows)
+{
+    return set_up_with(console, words, &plain_plate, rows);
+}
+
+static bool read_plate(const struct word *words, struct plate *plate)
+{
+    return read_u32(&words[0], &plate->reference) && read_byte(&words[1], &plate->letter)
+        && read_byte(&words[2], &plate->number)
+        && read_exactly(&words[3], plate->characters, PLATE_CHARACTERS);
+}
+
+/* "node" with four more words, which name the plate. */
+static bool node_with_plate_command(struct console *console, const struct word *words, struct rows *rows)
+{
+    struct plate plate;
+    return read_plate(words + 3, &plate) && set_up_with(console, words, &plate, rows);
 }
 
 static bool frame_command(struct console *console, const struct word *words, struct rows *rows)
@@ -198,11 +219,22 @@ struct command_row {
 };
 
 static const struct command_row command_table[] = {
-    {"node", 3, node_command},       {"frame", 1, frame_command},     {"pulse", 1, pulse_command},
-    {"blocked", 1, blocked_command}, {"cleared", 0, cleared_command}, {"power", 0, power_command},
-    {"state", 0, state_command},     {"line", 2, line_command},       {"strike", 2, strike_command},
-    {"motors", 0, motors_command},   {"store", 0, store_command},     {"load", 1, load_command},
-    {"byte", 2, byte_command},       {"close", 0, close_command},     {"write", 7, write_command},
+    {"node", 3, node_command},
+    {"node", 7, node_with_plate_command},
+    {"frame", 1, frame_command},
+    {"pulse", 1, pulse_command},
+    {"blocked", 1, blocked_command},
+    {"cleared", 0, cleared_command},
+    {"power", 0, power_command},
+    {"state", 0, state_command},
+    {"line", 2, line_command},
+    {"strike", 2, strike_command},
+    {"motors", 0, motors_command},
+    {"store", 0, store_command},
+    {"load", 1, load_command},
+    {"byte", 2, byte_command},
+    {"close", 0, close_command},
+    {"write", 7, write_command},
 };
 
 enum { COMMANDS = sizeof command_table / sizeof command_table[0] };
@@ -216,9 +248,8 @@ static bool obey_line(struct console *console, const uint8_t *line, size_t lengt
     struct word words[WORDS_MOST];
     size_t count = split_words(line, length, words);
     for (size_t at = 0; count > 0 && at < COMMANDS; at++)
-        if (is_word(&words[0], command_table[at].name))
-            return count == command_table[at].words + 1
-                && command_table[at].obey(console, words + 1, rows);
+        if (is_word(&words[0], command_table[at].name) && count == command_table[at].words + 1)
+            return command_table[at].obey(console, words + 1, rows);
     return false;
 }
 

@@ -3,6 +3,7 @@
 #include "messages.h"
 
 #include <stdbool.h>
+#include <string.h>
 
 enum { RESERVED = 0xFF };  /* what we send in a reserved byte */
 enum { STATUS_STOPPED = 0, STATUS_RUNNING = 1, STATUS_BLOCKED = 2, STATUS_LOCKED = 3 };
@@ -24,9 +25,21 @@ enum code {
  * ------------------------------------------------------------------------ */
 
 static const struct message_row message_table[] = {
-    {STOP, 1},             {MOVETO, 4},         {GET_MOTOR_POSITION, 0}, {GET_MOTOR_STATUS, 0},
-    {SET_MOTOR_IP, 4},     {GET_MOTOR_IP, 1},   {SET_NETWORK_LOCK, 2},   {GET_NETWORK_LOCK, 0},
-    {GET_NODE_ADDR, 0},    {GET_GROUP_ADDR, 1}, {SET_GROUP_ADDR, 4},
+    {STOP, 1},
+    {MOVETO, 4},
+    {GET_MOTOR_POSITION, 0},
+    {GET_MOTOR_STATUS, 0},
+    {SET_MOTOR_IP, 4},
+    {GET_MOTOR_IP, 1},
+    {SET_NETWORK_LOCK, 2},
+    {GET_NETWORK_LOCK, 0},
+    {GET_NODE_ADDR, 0},
+    {GET_GROUP_ADDR, 1},
+    {SET_GROUP_ADDR, 4},
+    {GET_NODE_LABEL, 0},
+    {SET_NODE_LABEL, LABEL_LENGTH},
+    {GET_NODE_APP_VERSION, 0},
+    {GET_NODE_SERIAL_NUMBER, 0},
 };
 
 _Static_assert(sizeof message_table / sizeof message_table[0] == MESSAGES, "the table has a row for each message");
@@ -103,6 +116,8 @@ static bool field_out_of_range(const struct frame *request)
     case GET_GROUP_ADDR:
     case SET_GROUP_ADDR:
         return data[0] >= GROUPS;
+    case SET_NODE_LABEL:
+        return !is_label(data);
     default:
         return false;
     }
@@ -262,6 +277,9 @@ static void act(struct board *board, const struct frame *request)
     case SET_NETWORK_LOCK:
         set_network_lock(board, request);
         break;
+    case SET_NODE_LABEL:
+        memcpy(board->label, data, LABEL_LENGTH);
+        break;
     default:
         board->groups[data[0]] = three_bytes(data + 1);
         break;
@@ -301,10 +319,23 @@ static void add_two_bytes(struct frame *reply, uint16_t value)
     reply->data_count += 2;
 }
 
-static void add_address(struct frame *reply, uint32_t address)
+static void add_three_bytes(struct frame *reply, uint32_t value)
 {
-    put_three_bytes(reply->data + reply->data_count, address);
+    put_three_bytes(reply->data + reply->data_count, value);
     reply->data_count += 3;
+}
+
+static void add_bytes(struct frame *reply, const uint8_t *bytes, size_t count)
+{
+    memcpy(reply->data + reply->data_count, bytes, count);
+    reply->data_count += count;
+}
+
+/* The six hexadecimal digits of an address as it is printed, in capitals, high byte first. */
+static void add_printed_address(struct frame *reply, uint32_t address)
+{
+    for (int shift = 20; shift >= 0; shift -= 4)
+        add_byte(reply, (uint8_t)"0123456789ABCDEF"[address >> shift & 0x0F]);
 }
 
 static void post_position(const struct board *board, struct frame *reply)
@@ -339,7 +370,7 @@ static void post_lock(const struct board *board, struct frame *reply)
 {
     reply->header.message = POST_NETWORK_LOCK;
     add_byte(reply, board->locked ? 1 : 0);
-    add_address(reply, board->holder);
+    add_three_bytes(reply, board->holder);
     add_byte(reply, board->priority);
     add_byte(reply, board->saved ? 1 : 0);
 }
@@ -348,7 +379,30 @@ static void post_group(const struct board *board, uint8_t index, struct frame *r
 {
     reply->header.message = POST_GROUP_ADDR;
     add_byte(reply, index);
-    add_address(reply, board->groups[index]);
+    add_three_bytes(reply, board->groups[index]);
+}
+
+static void post_label(const struct board *board, struct frame *reply)
+{
+    reply->header.message = POST_NODE_LABEL;
+    add_bytes(reply, board->label, LABEL_LENGTH);
+}
+
+static void post_version(const struct board *board, struct frame *reply)
+{
+    reply->header.message = POST_NODE_APP_VERSION;
+    add_three_bytes(reply, board->plate.reference);
+    add_byte(reply, board->plate.letter);
+    add_byte(reply, board->plate.number);
+    add_byte(reply, RESERVED);
+}
+
+/* NodeID, maker, year and week, twelve characters. */
+static void post_serial_number(const struct board *board, struct frame *reply)
+{
+    reply->header.message = POST_NODE_SERIAL_NUMBER;
+    add_printed_address(reply, board->node_id);
+    add_bytes(reply, board->plate.characters, PLATE_CHARACTERS);
 }
 
 /* Builds the POST of a GET; false when the message is a SET or CTRL. */
@@ -372,6 +426,15 @@ static bool post(const struct board *board, const struct frame *request, struct 
         return true;
     case GET_GROUP_ADDR:
         post_group(board, request->data[0], reply);
+        return true;
+    case GET_NODE_LABEL:
+        post_label(board, reply);
+        return true;
+    case GET_NODE_APP_VERSION:
+        post_version(board, reply);
+        return true;
+    case GET_NODE_SERIAL_NUMBER:
+        post_serial_number(board, reply);
         return true;
     default:
         return false;

@@ -10,7 +10,7 @@
 #include "frame.h"
 #include "refusal.h"
 
-enum { MESSAGES = 11 };
+enum { MESSAGES = 15 };
 
 enum { MOVE_DOWN = 0, MOVE_UP = 1, MOVE_TO_FAVOURITE = 2, MOVE_TO_PERCENT = 4 };
 enum { IP_DELETE = 0, IP_CURRENT = 1, IP_PERCENT = 3, IP_DIVIDE = 4 };

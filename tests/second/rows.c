@@ -75,5 +75,5 @@ void say_board(struct rows *rows, const struct board *board)
     say(rows, " groups");
     for (size_t at = 0; at < GROUPS; at++)
         say(rows, " %06lX", (unsigned long)board->groups[at]);
-    say(rows, "\n");
+    say_hex(rows, " label", board->label, LABEL_LENGTH);
 }

@@ -12,6 +12,7 @@
 #include "script_line.h"
 #include "script_malformed.h"
 #include "script_register.h"
+#include "script_set_up.h"
 #include "script_wire.h"
 
 struct activity {
@@ -27,7 +28,7 @@ static const struct activity activities[] = {
     {cleared_line, {200, 20, 20, 100}},
     {power_line, {150, 20, 20, 100}},
     {state_line, {250, 50, 50, 200}},
-    {node_line, {20, 5, 10, 30}},
+    {node_line, {40, 15, 25, 60}},
     {report_line, {400, 6000, 300, 2000}},
     {damaged_report_line, {50, 200, 50, 200}},
     {strike_line, {100, 700, 50, 500}},
@@ -74,6 +75,8 @@ static void build_line(struct script *script)
     script->phase_left--;
     if (script->pending_at < script->pending.count && chance(script, 90))
         pending_byte_line(script);
+    else if (script->looks_left > 0 && chance(script, 60))
+        look_line(script);
     else
         build_weighted(script);
     if (script->length > 0 && script->line[0] != '#' && chance(script, 1))

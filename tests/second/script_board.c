@@ -8,6 +8,7 @@
 
 #include "board.h"
 #include "messages.h"
+#include "plate.h"
 #include "script_frame.h"
 
 static uint32_t own_node_id(const struct script *script)
@@ -117,6 +118,41 @@ static void group_data(struct script *script, uint8_t *data)
     put_three_bytes(data + 1, any_group(script));
 }
 
+static uint8_t any_label_byte(struct script *script)
+{
+    return (uint8_t)ONE_OF(script, LABEL_BYTE_FIRST, LABEL_BYTE_LAST,
+                           between(script, LABEL_BYTE_FIRST, LABEL_BYTE_LAST),
+                           between(script, LABEL_BYTE_FIRST, LABEL_BYTE_LAST));
+}
+
+static uint8_t not_a_label_byte(struct script *script)
+{
+    return (uint8_t)ONE_OF(script, LABEL_BYTE_FIRST - 1, LABEL_BYTE_FIRST - 1, LABEL_BYTE_LAST + 1,
+                           LABEL_BYTE_LAST + 1, 0x00, 0x80, 0xA0, 0xFF, below(script, LABEL_BYTE_FIRST),
+                           between(script, LABEL_BYTE_LAST + 1, 255));
+}
+
+/* A text of any length, filled up with spaces. */
+static void right_label(struct script *script, uint8_t *data)
+{
+    size_t text = ONE_OF(script, 0, 1, 8, 15, LABEL_LENGTH, LABEL_LENGTH, LABEL_LENGTH);
+    for (size_t at = 0; at < LABEL_LENGTH; at++)
+        data[at] = at < text ? any_label_byte(script) : SPACE;
+}
+
+/* DATA of a 55h: most labels are right, some have one wrong byte, few are nothing but random bytes. */
+static void label_data(struct script *script, uint8_t *data)
+{
+    for (size_t at = LABEL_LENGTH; at < DATA_MOST; at++)
+        data[at] = chance(script, 70) ? not_a_label_byte(script) : any_byte(script);
+    if (chance(script, 3))
+        return;
+    right_label(script, data);
+    size_t place = ONE_OF(script, 0, LABEL_LENGTH - 1, between(script, 1, LABEL_LENGTH - 2));
+    if (chance(script, 30))
+        data[place] = not_a_label_byte(script);
+}
+
 static void fill_data(struct script *script, struct frame *request)
 {
     for (size_t at = 0; at < DATA_MOST; at++)
@@ -138,19 +174,38 @@ static void fill_data(struct script *script, struct frame *request)
     case SET_GROUP_ADDR:
         group_data(script, request->data);
         break;
+    case SET_NODE_LABEL:
+    case POST_NODE_LABEL:
+        label_data(script, request->data);
+        break;
     default:
         break;
+    }
+}
+
+/* How much DATA a message needs, or carries where it is a reply about label and plate. */
+static size_t usual_data_count(uint8_t message)
+{
+    const struct message_row *row = row_of(message);
+    switch (message) {
+    case POST_NODE_LABEL:
+        return LABEL_LENGTH;
+    case POST_NODE_SERIAL_NUMBER:
+        return 12;
+    case POST_NODE_APP_VERSION:
+        return 6;
+    default:
+        return row == NULL ? 0 : row->data_at_least;
     }
 }
 
 struct frame any_request(struct script *script)
 {
     struct frame request = {.header = {.message = any_message(script), .acknowledge = chance(script, 70)}};
-    const struct message_row *row = row_of(request.header.message);
     address_request(script, &request.header);
     choose_types(script, &request.header);
     fill_data(script, &request);
-    request.data_count = any_data_count(script, row == NULL ? 0 : row->data_at_least);
+    request.data_count = any_data_count(script, usual_data_count(request.header.message));
     return request;
 }
 
@@ -168,13 +223,20 @@ struct frame unlocking_request(struct script *script)
     return request;
 }
 
+static void put_request(struct script *script, const struct frame *request)
+{
+    struct loose_bundle bundle = bundle_of(request);
+    start_line(script, "frame");
+    put_hex(script, bundle.bytes, bundle.count);
+}
+
 void board_frame_line(struct script *script)
 {
     bool unlock = script->console.board.locked && chance(script, 4);
     struct frame request = unlock ? unlocking_request(script) : any_request(script);
-    struct loose_bundle bundle = bundle_of(&request);
-    start_line(script, "frame");
-    put_hex(script, bundle.bytes, bundle.count);
+    if (request.header.message == SET_NODE_LABEL)
+        script->looks_left = 2;
+    put_request(script, &request);
 }
 
 void damaged_frame_line(struct script *script)
@@ -187,28 +249,8 @@ void damaged_frame_line(struct script *script)
 }
 
 /* ------------------------------------------------------------------------
- * Set-up and events
+ * Events and the state
  * ------------------------------------------------------------------------ */
-
-void node_line(struct script *script)
-{
-    bool valid = chance(script, 60);
-    uint32_t node_id = ONE_OF(script, 0x000001, 0x000100, 0x050403, 0x050002, 0xFFFEFF,
-                              between(script, NODE_ID_FIRST, NODE_ID_LAST));
-    uint32_t type = between(script, 1, NODE_TYPE_LAST);
-    uint32_t travel = ONE_OF(script, 100, 101, 199, 200, 201, 255, 256, 1000, 32767, 32768, 65534, 65535,
-                             between(script, 100, 1000), between(script, 100, 65535));
-    if (!valid && chance(script, 40))
-        node_id = ONE_OF(script, 0x000000, 0xFFFF00, 0xFFFFFE, 0xFFFFFF);
-    if (!valid && chance(script, 40))
-        type = ONE_OF(script, 0, 16, 255);
-    if (!valid && chance(script, 40))
-        travel = ONE_OF(script, 0, 1, 99);
-    start_line(script, "node");
-    put_id(script, node_id);
-    put_decimal(script, type);
-    put_decimal(script, travel);
-}
 
 /* Pulses that lie about the middle between two percents. */
 static uint32_t pulse_about_a_half(struct script *script)
@@ -266,4 +308,36 @@ void power_line(struct script *script)
 void state_line(struct script *script)
 {
     start_line(script, "state");
+}
+
+/* A GET of label or plate that the board answers. */
+static void looking_frame_line(struct script *script)
+{
+    struct frame request = {
+        .header = {.message = (uint8_t)ONE_OF(script, GET_NODE_LABEL, GET_NODE_LABEL, GET_NODE_APP_VERSION,
+                                              GET_NODE_SERIAL_NUMBER),
+                   .acknowledge = chance(script, 50),
+                   .source = 0xFFFF00,
+                   .destination = own_node_id(script)},
+    };
+    put_request(script, &request);
+}
+
+/* After a label or a set-up: shows what the board holds, at times only after a power-up. */
+void look_line(struct script *script)
+{
+    script->looks_left--;
+    switch (below(script, 8)) {
+    case 0:
+        power_line(script);
+        break;
+    case 1:
+    case 2:
+    case 3:
+        state_line(script);
+        break;
+    default:
+        looking_frame_line(script);
+        break;
+    }
 }

@@ -27,6 +27,7 @@ struct script {
     size_t length;
     struct loose_bundle pending;  /* bytes still to be fed to the line reader */
     size_t pending_at;
+    size_t looks_left;  /* lines still to come that show what was set up or stored */
     int phase;
     size_t phase_left;
     size_t answered;

@@ -4,8 +4,6 @@
 
 #include <string.h>
 
-enum { ID_DIGITS = 6 };
-
 /* Splits at single spaces; 0 when a word is empty or there are too many. */
 size_t split_words(const uint8_t *line, size_t length, struct word *words)
 {
@@ -77,22 +75,28 @@ bool read_hex(const struct word *word, struct bytes *bytes)
     return is_word(word, "-") || read_digits(word, bytes);
 }
 
+/* HEX of so many bytes, no more and no less. */
+bool read_exactly(const struct word *word, uint8_t *bytes, size_t count)
+{
+    struct bytes all;
+    if (word->length != 2 * count || !read_digits(word, &all))
+        return false;
+    memcpy(bytes, all.bytes, count);
+    return true;
+}
+
 bool read_byte(const struct word *word, uint8_t *byte)
 {
-    struct bytes bytes;
-    if (word->length != 2 || !read_digits(word, &bytes))
-        return false;
-    *byte = bytes.bytes[0];
-    return true;
+    return read_exactly(word, byte, 1);
 }
 
 /* ID: the number as printed on the label, high byte first. */
 bool read_id(const struct word *word, uint32_t *id)
 {
-    struct bytes bytes;
-    if (word->length != ID_DIGITS || !read_digits(word, &bytes))
+    uint8_t bytes[3];
+    if (!read_exactly(word, bytes, sizeof bytes))
         return false;
-    *id = (uint32_t)bytes.bytes[0] << 16 | (uint32_t)bytes.bytes[1] << 8 | bytes.bytes[2];
+    *id = (uint32_t)bytes[0] << 16 | (uint32_t)bytes[1] << 8 | bytes[2];
     return true;
 }
 

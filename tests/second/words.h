@@ -27,6 +27,7 @@ size_t split_words(const uint8_t *line, size_t length, struct word *words);
 bool is_word(const struct word *word, const char *text);
 
 bool read_hex(const struct word *word, struct bytes *bytes);
+bool read_exactly(const struct word *word, uint8_t *bytes, size_t count);
 bool read_byte(const struct word *word, uint8_t *byte);
 bool read_id(const struct word *word, uint32_t *id);
 bool read_u8(const struct word *word, uint8_t *value);
