@@ -6,4 +6,5 @@ pub mod Tables
 pub mod Membership
 pub mod Bytes
 pub mod Lists
+pub mod Every
 pub mod Determined
