@@ -4,6 +4,8 @@ use mathlib.Core.Path.{_∙_, sym}
 use Rattle.meaning.specs.Determined.{Once}
 use Rattle.board.proofs.settings.Settings.in_range.Kinds as in-range-kinds
 use Rattle.board.proofs.settings.Settings.in_range.Reads as in-range
+use Rattle.board.proofs.plate.Plate.in_range.Kinds as plate-in-range-kinds
+use Rattle.board.proofs.plate.Plate.in_range.Reads as plate-in-range
 use Rattle.board.proofs.drive.Drive.fresh.Kinds as drive-fresh-kinds
 use Rattle.board.proofs.drive.Drive.fresh.Reads as drive-fresh
 use Rattle.board.proofs.drive.Drive.moved_to.Kinds as moved-to-kinds
@@ -46,6 +48,10 @@ use Rattle.board.proofs.lock.Lock.saving.Kinds as saving-kinds
 use Rattle.board.proofs.lock.Lock.saving.Reads as saving
 use Rattle.board.proofs.lock.Lock.over_power_up.Kinds as over-power-up-kinds
 use Rattle.board.proofs.lock.Lock.over_power_up.Reads as over-power-up
+use Rattle.board.proofs.label.blank_label.Kinds as blank-label-kinds
+use Rattle.board.proofs.label.blank_label.Reads as blank-label
+use Rattle.board.proofs.label.is_label.Kinds as is-label-kinds
+use Rattle.board.proofs.label.is_label.Reads as is-label
 use Rattle.board.proofs.whole.Node.fresh.Kinds as node-fresh-kinds
 use Rattle.board.proofs.whole.Node.fresh.Reads as node-fresh
 use Rattle.board.proofs.whole.Node.is_sound.Kinds as is-sound-kinds
@@ -58,6 +64,8 @@ use Rattle.board.proofs.whole.Node.with_favourites.Kinds as with-favour
 use Rattle.board.proofs.whole.Node.with_favourites.Reads as with-favourites
 use Rattle.board.proofs.whole.Node.with_lock.Kinds as with-lock-kinds
 use Rattle.board.proofs.whole.Node.with_lock.Reads as with-lock
+use Rattle.board.proofs.whole.Node.with_label.Kinds as with-label-kinds
+use Rattle.board.proofs.whole.Node.with_label.Reads as with-label
 use Rattle.board.proofs.events.set_up.Kinds as set-up-kinds
 use Rattle.board.proofs.events.set_up.Reads as set-up
 use Rattle.board.proofs.events.at_pulse.Kinds as at-pulse-kinds
@@ -77,6 +85,7 @@ use Rattle.board.proofs.groups.no_groups.Reads as no-groups
 
 pub record Determined : Type 0 where
   pub in-range-once : Once in-range-kinds.ps in-range-kinds.r in-range.Post
+  pub plate-in-range-once : Once plate-in-range-kinds.ps plate-in-range-kinds.r plate-in-range.Post
   pub drive-fresh-once : Once drive-fresh-kinds.ps drive-fresh-kinds.r drive-fresh.Post
   pub moved-to-once : Once moved-to-kinds.ps moved-to-kinds.r moved-to.Post
   pub halted-once : Once halted-kinds.ps halted-kinds.r halted.Post
@@ -98,12 +107,15 @@ pub record Determined : Type 0 where
   pub unlocked-once : Once unlocked-kinds.ps unlocked-kinds.r unlocked.Post
   pub saving-once : Once saving-kinds.ps saving-kinds.r saving.Post
   pub over-power-up-once : Once over-power-up-kinds.ps over-power-up-kinds.r over-power-up.Post
+  pub blank-label-once : Once blank-label-kinds.ps blank-label-kinds.r blank-label.Post
+  pub is-label-once : Once is-label-kinds.ps is-label-kinds.r is-label.Post
   pub node-fresh-once : Once node-fresh-kinds.ps node-fresh-kinds.r node-fresh.Post
   pub is-sound-once : Once is-sound-kinds.ps is-sound-kinds.r is-sound.Post
   pub status-once : Once status-kinds.ps status-kinds.r status.Post
   pub with-drive-once : Once with-drive-kinds.ps with-drive-kinds.r with-drive.Post
   pub with-favourites-once : Once with-favourites-kinds.ps with-favourites-kinds.r with-favourites.Post
   pub with-lock-once : Once with-lock-kinds.ps with-lock-kinds.r with-lock.Post
+  pub with-label-once : Once with-label-kinds.ps with-label-kinds.r with-label.Post
   pub set-up-once : Once set-up-kinds.ps set-up-kinds.r set-up.Post
   pub at-pulse-once : Once at-pulse-kinds.ps at-pulse-kinds.r at-pulse.Post
   pub blocked-once : Once blocked-kinds.ps blocked-kinds.r blocked.Post
@@ -117,6 +129,7 @@ pub determined : Determined
 determined =
     record {
       in-range-once = λ κs a x y s t p q. p ∙ sym q;
+      plate-in-range-once = λ κs a x y s t p q. p ∙ sym q;
       drive-fresh-once = λ κs a x y s t p q. p ∙ sym q;
       moved-to-once = λ κs a x y s t p q. p ∙ sym q;
       halted-once = λ κs a x y s t p q. p ∙ sym q;
@@ -138,12 +151,15 @@ determined =
       unlocked-once = λ κs a x y s t p q. p ∙ sym q;
       saving-once = λ κs a x y s t p q. p ∙ sym q;
       over-power-up-once = λ κs a x y s t p q. p ∙ sym q;
+      blank-label-once = λ κs a x y s t p q. p ∙ sym q;
+      is-label-once = λ κs a x y s t p q. p ∙ sym q;
       node-fresh-once = λ κs a x y s t p q. p ∙ sym q;
       is-sound-once = λ κs a x y s t p q. p ∙ sym q;
       status-once = λ κs a x y s t p q. p ∙ sym q;
       with-drive-once = λ κs a x y s t p q. p ∙ sym q;
       with-favourites-once = λ κs a x y s t p q. p ∙ sym q;
       with-lock-once = λ κs a x y s t p q. p ∙ sym q;
+      with-label-once = λ κs a x y s t p q. p ∙ sym q;
       set-up-once = λ κs a x y s t p q. p ∙ sym q;
       at-pulse-once = λ κs a x y s t p q. p ∙ sym q;
       blocked-once = λ κs a x y s t p q. p ∙ sym q;

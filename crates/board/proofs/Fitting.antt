@@ -17,9 +17,9 @@ use Rattle.board.specs.Drive.{haltedFrom, halted, movedTo, atPulse, bloc
 use Rattle.board.specs.Favourites.{isNumber, withIp, sharedTo, sharedOut}
 use Rattle.board.specs.Groups.{Groups, noGroups, applied}
 use Rattle.board.specs.Lock.{overPowerUp}
-use Rattle.board.specs.Node.{fresh, sound, withDrive, withFavourites, withLock}
+use Rattle.board.specs.Node.{fresh, sound, withDrive, withFavourites, withLock, withLabel}
 use Rattle.board.specs.Events.{afterPulse, afterBlocked, afterCleared, afterPowerUp, blocks}
-use Rattle.board.specs.Typed.{Typed, TypedTable}
+use Rattle.board.specs.Typed.{Typed, SettingsTyped, TypedTable}
 use Rattle.board.specs.declared.drive.Drive.{Drive}
 use Rattle.board.specs.declared.drive.Motion.{Motion}
 use Rattle.board.specs.declared.drive.Motion.the-variants.{Still, Running}
@@ -46,34 +46,49 @@ module _ (n : Node) (t : Typed n) where
   pub drive-kept-typed : (d : Drive) → DriveFits d → Typed (withDrive n d)
   drive-kept-typed d f =
       record {
-        travel-fits = t .travel-fits;
+        settings-fit = t .settings-fit;
         direction-fits = f .direction-fits;
         source-fits = f .source-fits;
         cause-fits = f .cause-fits;
         priority-fits = t .priority-fits;
         sixteen-slots = t .sixteen-slots;
+        sixteen-characters = t .sixteen-characters;
       }
 
   pub favourites-kept-typed : (f : Favourites) → length (f .slots) ≡ 16 → Typed (withFavourites n f)
   favourites-kept-typed f e =
       record {
-        travel-fits = t .travel-fits;
+        settings-fit = t .settings-fit;
         direction-fits = t .direction-fits;
         source-fits = t .source-fits;
         cause-fits = t .cause-fits;
         priority-fits = t .priority-fits;
         sixteen-slots = e;
+        sixteen-characters = t .sixteen-characters;
       }
 
   pub lock-kept-typed : (l : Lock) → l .priority < 256 → Typed (withLock n l)
   lock-kept-typed l p =
       record {
-        travel-fits = t .travel-fits;
+        settings-fit = t .settings-fit;
         direction-fits = t .direction-fits;
         source-fits = t .source-fits;
         cause-fits = t .cause-fits;
         priority-fits = p;
         sixteen-slots = t .sixteen-slots;
+        sixteen-characters = t .sixteen-characters;
+      }
+
+  pub label-kept-typed : (label : List ℕ) → length label ≡ 16 → Typed (withLabel n label)
+  label-kept-typed label e =
+      record {
+        settings-fit = t .settings-fit;
+        direction-fits = t .direction-fits;
+        source-fits = t .source-fits;
+        cause-fits = t .cause-fits;
+        priority-fits = t .priority-fits;
+        sixteen-slots = t .sixteen-slots;
+        sixteen-characters = e;
       }
 
 -- The motor.
@@ -120,15 +135,16 @@ pub shared-out-sixteen : (n : ℕ) (travel : Pulse) → length (sharedOut n trav
 shared-out-sixteen n travel = shared-so-many n travel 16
 
 -- Set-up.
-pub fresh-is-typed : (s : Settings) → s .travel .0 < 65536 → Typed (fresh s)
+pub fresh-is-typed : (s : Settings) → SettingsTyped s → Typed (fresh s)
 fresh-is-typed s h =
     record {
-      travel-fits = h;
+      settings-fit = h;
       direction-fits = omega arith;
       source-fits = omega arith;
       cause-fits = omega arith;
       priority-fits = omega arith;
       sixteen-slots = refl;
+      sixteen-characters = refl;
     }
 
 -- Events.

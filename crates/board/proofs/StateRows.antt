@@ -6,6 +6,7 @@ use lib.Dec.{leb}
 use Rattle.board.specs.Settings.{inRange}
 use Rattle.board.specs.Drive.{driveWithin}
 use Rattle.board.specs.Favourites.{ipsWithin}
+use Rattle.board.specs.Label.{isLabel}
 use Rattle.board.specs.Node.{sound}
 use Rattle.board.specs.declared.whole.Node.{Node}
 
@@ -21,5 +22,10 @@ module _ (n : Node) (s : inRange (n .settings) ≡ true) (d : driveWithin (n .se
   pub by-ips : ipsWithin (n .settings .travel) (n .favourites .slots) ≡ false → sound n ≡ false
   by-ips f = rw (s, d, f)
 
-  pub by-holder : ipsWithin (n .settings .travel) (n .favourites .slots) ≡ true → sound n ≡ leb (n .lock .holder .0) 0xFFFFFF
-  by-holder f = rw (s, d, f)
+module _ (n : Node) (s : inRange (n .settings) ≡ true) (d : driveWithin (n .settings .travel) (n .drive) ≡ true)
+    (f : ipsWithin (n .settings .travel) (n .favourites .slots) ≡ true) where
+  pub by-holder : leb (n .lock .holder .0) 0xFFFFFF ≡ false → sound n ≡ false
+  by-holder h = rw (s, d, f, h)
+
+  pub by-label : leb (n .lock .holder .0) 0xFFFFFF ≡ true → sound n ≡ isLabel (n .label)
+  by-label h = rw (s, d, f, h)

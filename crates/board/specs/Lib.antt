@@ -1,7 +1,9 @@
+pub mod Plate
 pub mod Settings
 pub mod Drive
 pub mod Favourites
 pub mod Lock
+pub mod Label
 pub mod Groups
 pub mod Node
 pub mod Events

@@ -1,10 +1,12 @@
-// The awning board itself: its settings, motor, favourite positions, lock and groups, and what happens to them. The bus
-// is above it, in `node`.
+// The awning board itself: its settings, motor, favourite positions, lock, label and groups, and what happens to them.
+// The bus is above it, in `node`.
 mod drive;
 mod events;
 mod favourites;
 mod groups;
+mod label;
 mod lock;
+mod plate;
 mod settings;
 mod whole;
 
@@ -24,6 +26,9 @@ pub use groups::Change;
 pub use groups::apply;
 pub use groups::in_table;
 pub use groups::no_groups;
+pub use label::blank_label;
+pub use label::is_label;
 pub use lock::Lock;
+pub use plate::Plate;
 pub use settings::Settings;
 pub use whole::Node;

@@ -1,4 +1,5 @@
 // What the fitter sets up.
+use crate::plate::Plate;
 use frame::Address;
 use travel::Pulse;
 ghost use mathlib.Core.Path.{_≡_};
@@ -11,6 +12,7 @@ pub struct Settings {
     pub kind: u8,
     // The pulse of the down limit.
     pub travel: Pulse,
+    pub plate: Plate,
 }
 
 impl Settings {
@@ -28,6 +30,10 @@ impl Settings {
         if self.kind > 15 {
             return false;
         }
-        self.travel.0 >= 100
+        if self.travel.0 < 100 {
+            return false;
+        }
+        let plate = self.plate;
+        plate.in_range()
     }
 }

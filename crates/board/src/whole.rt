@@ -1,10 +1,12 @@
 // The whole state of the board.
 use crate::drive::Drive;
 use crate::favourites::Favourites;
+use crate::label::blank_label;
+use crate::label::is_label;
 use crate::lock::Lock;
 use crate::settings::Settings;
 ghost use mathlib.Core.Path.{_≡_};
-ghost use Rattle.board.specs.Node.{fresh, sound, withDrive, withFavourites, withLock, statusOf};
+ghost use Rattle.board.specs.Node.{fresh, sound, withDrive, withFavourites, withLock, withLabel, statusOf};
 
 // The fields are open, so that a state can be anything: every call checks it, by row 33.
 pub struct Node {
@@ -12,6 +14,7 @@ pub struct Node {
     pub drive: Drive,
     pub favourites: Favourites,
     pub lock: Lock,
+    pub label: [u8; 16],
 }
 
 impl Node {
@@ -22,11 +25,13 @@ impl Node {
         let drive = Drive::fresh();
         let favourites = Favourites::none();
         let lock = Lock::none();
+        let label = blank_label();
         Node {
             settings,
             drive,
             favourites,
             lock,
+            label,
         }
     }
 
@@ -48,7 +53,11 @@ impl Node {
         if !favourites.within(travel) {
             return false;
         }
-        lock.holder.0 <= 0xFF_FFFF
+        if lock.holder.0 > 0xFF_FFFF {
+            return false;
+        }
+        let label = self.label;
+        is_label(label)
     }
 
     pub fn status(self) -> u8
@@ -88,6 +97,14 @@ impl Node {
     {
         let mut node = self;
         node.lock = lock;
+        node
+    }
+
+    pub fn with_label(self, label: [u8; 16]) -> Node
+        ensures { λ r. ⌜ r ≡ withLabel self label ⌝ }
+    {
+        let mut node = self;
+        node.label = label;
         node
     }
 }

@@ -21,13 +21,25 @@ returns-3 c =
 
 returns-4 : tie.Need-returns-4
 returns-4 c =
-    let i = c .before .before .before .before .before in
+    let i = c .before .before .before .before .before .before in
     rw (
       found-true (i .before .is-node-id .ensures) (i .if1 .left),
-      le-leb _ _ (c .before .before .before .if2 .left),
-      le-leb _ _
-          (c .before .if3 .left),
+      le-leb _ _ (c .before .before .before .before .if2 .left),
+      le-leb _ _ (c .before .before .if3 .left),
+      lt-leb _ _ (c .if4 .taken),
     )
+
+returns-5 : tie.Need-returns-5
+returns-5 c =
+    let last = c .before .before in
+    let i = last .before .before .before .before .before .before in
+    rw (
+      found-true (i .before .is-node-id .ensures) (i .if1 .left),
+      le-leb _ _ (last .before .before .before .before .if2 .left),
+      le-leb _ _ (last .before .before .if3 .left),
+      le-leb _ _ (last .if4 .left),
+    )
+    (c .in-range .ensures)
 
 pub in-range-spec : {M : Type 1} → statement M
 in-range-spec =
@@ -37,4 +49,6 @@ in-range-spec =
     returns
     returns-2
     returns-3
-    returns-4)
+    returns-4
+    (λ c κs. search needs)
+    returns-5)
