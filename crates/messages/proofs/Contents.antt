@@ -6,13 +6,17 @@ use native.Mathlib.Nat.{le-of-suc-le-suc}
 use mathlib.Core.Path.{_≡_, refl, sym, subst}
 use mathlib.Core.Bool.{Bool, true, false}
 use mathlib.Core.List.{List, [], _∷_}
-use borrow.Author.Tests.{leb-true}
-use lib.Dec.{leb}
+use borrow.Author.Tests.{leb-true, ltb-true, ltb-false}
+use lib.Dec.{leb, ltb}
 use lib.ListN.{length, getD, take, replicate, drop}
 use lib.Seq.{take-at}
 use Rattle.meaning.specs.Bytes.{Bytes}
 use Rattle.meaning.specs.Cases.{both}
 use Rattle.meaning.specs.Choice.{either}
+use Rattle.meaning.specs.Every.{each-passes}
+use Rattle.meaning.specs.Lists.{getD-past}
+use Rattle.serial.specs.Serial.{anOrigin, isOrigin}
+use Rattle.serial.proofs.Laws.{bytes as serial-is-bytes}
 use Rattle.frame.specs.declared.address.Address.{Address}
 use Rattle.travel.specs.Units.{ip}
 use Rattle.travel.specs.Position.{percentOfPulse, percent-at-most-100}
@@ -20,7 +24,8 @@ use Rattle.travel.specs.declared.Pulse.{Pulse}
 use Rattle.board.specs.Drive.{isRunning}
 use Rattle.board.specs.Favourites.{ipAt, isAt, isNumber, firstAt, reportedIp}
 use Rattle.board.specs.Groups.{Groups}
-use Rattle.board.specs.Node.{sound, statusOf}
+use Rattle.board.specs.Label.{isCharacter, isLabel}
+use Rattle.board.specs.Node.{sound, statusOf, withLabel}
 use Rattle.board.specs.Typed.{Typed, TypedTable}
 use Rattle.board.specs.declared.favourites.Ip.{Ip}
 use Rattle.board.specs.declared.favourites.Ip.the-variants.{Unset, At}
@@ -29,7 +34,7 @@ use Rattle.board.specs.declared.groups.Change.{Change}
 use Rattle.board.specs.declared.groups.Change.the-variants.{Keep, Put}
 use Rattle.board.specs.declared.whole.Node.{Node}
 use Rattle.board.proofs.Within.{position-within}
-use Rattle.board.proofs.Sound.{parts-of}
+use Rattle.board.proofs.Sound.{settings-facts, plate-facts, parts-of}
 use Rattle.messages.specs.Code.{codeOf}
 use Rattle.messages.specs.declared.code.Code.{Code}
 use Rattle.messages.specs.declared.outcome.Outcome.{Outcome}
@@ -52,7 +57,19 @@ use Rattle.messages.specs.Motor.{
 use Rattle.messages.specs.Ips.{orderIn, ordered, setIpCodes, keepingIps, setIpRow, percentOr, ipCodes, ipData, ipRow}
 use Rattle.messages.specs.Locking.{setLockCodes, lockedBy, setLockRow, lockData, lockRow}
 use Rattle.messages.specs.Addresses.{addressRow, groupCodes, groupData, groupRow, setGroupRow}
+use Rattle.messages.specs.Identity.{
+  firstOf,
+  labelIn,
+  labelRow,
+  setLabelCodes,
+  setLabelRow,
+  versionOf,
+  versionRow,
+  serialData,
+  serialRow,
+}
 use Rattle.messages.specs.Table.{outcomeOf}
+use Rattle.messages.proofs.FirstBytes.{so-many, bytes-of-bytes}
 use Rattle.messages.proofs.Messages.{EachRow, every-message, or-refused}
 
 -- ---- what is done alone, and what is told
@@ -66,10 +83,14 @@ pub record Told (P : Outcome → Type 0) (n : Node) (groups : Groups) (d : List 
   pub lock : P (posts n 0x36 (lockData n))
   pub address : P (posts n 0x60 [])
   pub group : byteAt d 0 ≤ 15 → P (posts n 0x61 (groupData groups (byteAt d 0)))
+  pub label : P (posts n 0x65 (labelIn (n .label)))
+  pub version : P (posts n 0x75 (versionOf (n .settings .plate)))
+  pub serial : P (posts n 0x6C (serialData n))
 
 pub all-told : (P : Outcome → Type 0) (n : Node) (groups : Groups) (source : Address) (m : ℕ) (d : List ℕ)
     → Told P n groups d → P (outcomeOf n groups source m d)
-unfolding stopRow moveRow setIpRow ipRow setLockRow groupRow setGroupRow positionRow statusRow lockRow addressRow
+unfolding stopRow moveRow setIpRow ipRow setLockRow groupRow setGroupRow positionRow statusRow lockRow addressRow labelRow setLabelRow versionRow
+    serialRow
 all-told P n groups source m d t =
     every-message P n groups source m d
     (record {
@@ -88,6 +109,10 @@ all-told P n groups source m d t =
       set-group =
           or-refused P n (t .refused) (groupCodes 4 d (byteAt d 0)) (acts n (Put (byteAt d 0) (byteAt d 1) (byteAt d 2) (byteAt d 3)))
           (λ p. t .done _ _);
+      label = t .label;
+      set-label = or-refused P n (t .refused) (setLabelCodes d) (acts (withLabel n (labelIn d)) Keep) (λ p. t .done _ _);
+      version = t .version;
+      serial = t .serial;
       unknown = t .refused Code.UnknownMessage;
     })
 
@@ -104,6 +129,9 @@ at-most-20-bytes n groups source m d =
       lock = omega arith;
       address = omega arith;
       group = λ e. omega arith;
+      label = omega (arith, so-many 16 (n .label));
+      version = omega arith;
+      serial = omega (arith, so-many 6 (n .settings .plate .origin));
     })
 
 -- ---- the bytes
@@ -148,6 +176,27 @@ status-fits n =
     either (λ (k : ℕ). k < 256) (n .drive .blocked) (λ f. omega arith) λ f.
     either (λ (k : ℕ). k < 256) (isRunning (n .drive .motion)) (λ g. omega arith) (λ g. omega arith)
 
+character-fits : (label : List ℕ) → isLabel label ≡ true → (i : ℕ) → byteAt label i < 256
+character-fits label e i = by (ltb i (length label)) refl
+  where
+    by : (within : Bool) → ltb i (length label) ≡ within → byteAt label i < 256
+    by true h =
+        let c = each-passes isCharacter label 0 e i (ltb-true i (length label) h) in
+        omega (arith, leb-true (byteAt label i) 0x7E (both (leb 0x20 (byteAt label i)) (leb (byteAt label i) 0x7E) c .1))
+    by false h = omega (arith, getD-past label i 0 (ltb-false i (length label) h))
+
+origin-fits : (origin : List ℕ) → isOrigin origin ≡ true → (i : ℕ) → i < 6 → byteAt origin i < 256
+origin-fits origin e i h = at i h (anOrigin origin .is-fact e)
+  where
+    at : (i : ℕ) → i < 6 → anOrigin origin .fact → byteAt origin i < 256
+    at zero h (maker, rest) = omega (arith, maker .1)
+    at (suc zero) h (first, (maker, rest)) = omega (arith, maker .1)
+    at (suc (suc zero)) h (first, (second, (year, rest))) = omega (arith, year .1)
+    at (suc (suc (suc zero))) h (first, (second, (third, (year, rest)))) = omega (arith, year .1)
+    at (suc (suc (suc (suc zero)))) h (first, (second, (third, (fourth, (tens, rest))))) = omega (arith, tens .1)
+    at (suc (suc (suc (suc (suc zero))))) h (first, (second, (third, (fourth, (tens, (ones, rest)))))) = omega (arith, ones .1)
+    at (suc (suc (suc (suc (suc (suc k)))))) h facts = absurd (omega arith)
+
 -- DATA of four bytes.
 four : (a b c d : ℕ) → a < 256 → b < 256 → c < 256 → d < 256 → Bytes (a ∷ b ∷ c ∷ d ∷ [])
 four a b c d h i j k =
@@ -162,7 +211,7 @@ module _ (n : Node) (s : sound n ≡ true) (t : Typed n) where
       let percent = percentOfPulse p (n .settings .travel) .0 in
       let e = t .sixteen-slots in
       one-more-byte (p .0 % 256) (p .0 / 256 ∷ percent ∷ 0xFF ∷ found ∷ []) (omega arith)
-      (four (p .0 / 256) percent 0xFF found (omega (arith, t .travel-fits)) (percent-fits p (n .settings .travel)) (omega arith)
+      (four (p .0 / 256) percent 0xFF found (omega (arith, t .settings-fit .travel-fits)) (percent-fits p (n .settings .travel)) (omega arith)
       (first-at-fits 1 (n .favourites .slots) p (omega arith)))
 
   lock-bytes : Bytes (lockData n)
@@ -179,6 +228,25 @@ module _ (n : Node) (s : sound n ≡ true) (t : Typed n) where
       let most = leb-true index 16 (both (leb 1 index) (leb index 16) e .1) in
       four index 0xFF 0xFF (percentOr (ipAt (n .favourites) (ip index)) (n .settings .travel))
       (omega arith) (omega arith) (omega arith) (percent-or-fits (ipAt (n .favourites) (ip index)) (n .settings .travel))
+
+  label-bytes : Bytes (labelIn (n .label))
+  label-bytes = bytes-of-bytes 16 (n .label) (λ i h. character-fits (n .label) (parts-of n s .label-of-characters) i)
+
+  version-bytes : Bytes (versionOf (n .settings .plate))
+  version-bytes =
+      let p = n .settings .plate in
+      let r = p .reference in
+      let plate = plate-facts p (settings-facts (n .settings) (parts-of n s .settings-in-range) .1 .1 .1 .1) in
+      one-more-byte (r % 256) (r / 256 % 256 ∷ r / 65536 % 256 ∷ p .letter ∷ p .number ∷ 0xFF ∷ []) (omega arith)
+      (one-more-byte (r / 256 % 256) (r / 65536 % 256 ∷ p .letter ∷ p .number ∷ 0xFF ∷ []) (omega arith)
+      (four (r / 65536 % 256) (p .letter) (p .number) 0xFF (omega arith) (omega (arith, plate .1 .1 .0)) (t .settings-fit .number-fits)
+      (omega arith)))
+
+  serial-bytes : Bytes (serialData n)
+  serial-bytes =
+      let p = n .settings .plate in
+      let plate = plate-facts p (settings-facts (n .settings) (parts-of n s .settings-in-range) .1 .1 .1 .1) in
+      serial-is-bytes (n .settings .id .0) (firstOf 6 (p .origin)) (bytes-of-bytes 6 (p .origin) (origin-fits (p .origin) (plate .1 .1 .1)))
 
   told : (P : List ℕ → Type 0) (content : List ℕ) → P content → P (take (length content) (inTwenty content))
   told P content b = subst P (sym (content-is content)) b
@@ -202,4 +270,7 @@ module _ (n : Node) (s : sound n ≡ true) (t : Typed n) where
             told Bytes (groupData groups (byteAt d 0))
             (four (byteAt d 0) (byteAt entry 0) (byteAt entry 1) (byteAt entry 2) (omega arith) (g (byteAt d 0) 0) (g (byteAt d 0) 1)
             (g (byteAt d 0) 2));
+        label = told Bytes (labelIn (n .label)) label-bytes;
+        version = told Bytes (versionOf (n .settings .plate)) version-bytes;
+        serial = told Bytes (serialData n) serial-bytes;
       })

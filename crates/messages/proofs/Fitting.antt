@@ -16,7 +16,7 @@ use Rattle.board.specs.Drive.{halted, movedTo}
 use Rattle.board.specs.Favourites.{pulseOf}
 use Rattle.board.specs.Groups.{Groups}
 use Rattle.board.specs.Lock.{locked, unlocked, saving}
-use Rattle.board.specs.Node.{withDrive}
+use Rattle.board.specs.Node.{withDrive, withLabel}
 use Rattle.board.specs.Typed.{Typed}
 use Rattle.board.specs.declared.favourites.Ip.the-variants.{Unset, At}
 use Rattle.board.specs.declared.groups.Change.the-variants.{Keep, Put}
@@ -26,6 +26,7 @@ use Rattle.board.proofs.Fitting.{
   drive-kept-typed,
   favourites-kept-typed,
   lock-kept-typed,
+  label-kept-typed,
   halted-fits,
   moved-fits,
   with-ip-sixteen,
@@ -42,7 +43,9 @@ use Rattle.messages.specs.Motor.{stopCodes, stopped, stopRow, aimIn, tar
 use Rattle.messages.specs.Ips.{orderIn, ordered, setIpCodes, keepingIps, setIpRow, ipCodes, ipData, ipRow}
 use Rattle.messages.specs.Locking.{setLockCodes, lockedBy, setLockRow, lockRow}
 use Rattle.messages.specs.Addresses.{addressRow, groupCodes, groupData, groupRow, setGroupRow}
+use Rattle.messages.specs.Identity.{labelIn, labelRow, setLabelCodes, setLabelRow, versionRow, serialRow}
 use Rattle.messages.specs.Table.{outcomeOf}
+use Rattle.messages.proofs.FirstBytes.{so-many}
 use Rattle.messages.proofs.Messages.{EachRow, every-message, or-refused}
 
 -- What is left fits.
@@ -102,7 +105,7 @@ module _ (n : Node) (t : Typed n) (d : List ℕ) (bytes : (place : ℕ) → byte
       (λ p. record { node-fits = locked-by-fits source (byteAt d 0); change-fits = tt })
 
   pub every-message-fits : (groups : Groups) (source : Address) (m : ℕ) → Fitting (outcomeOf n groups source m d)
-  unfolding positionRow statusRow lockRow addressRow ipRow groupRow setGroupRow
+  unfolding positionRow statusRow lockRow addressRow ipRow groupRow setGroupRow labelRow setLabelRow versionRow serialRow
   every-message-fits groups source m =
       every-message Fitting n groups source m d
       (record {
@@ -120,5 +123,11 @@ module _ (n : Node) (t : Typed n) (d : List ℕ) (bytes : (place : ℕ) → byte
         set-group =
             or-fitting (groupCodes 4 d (byteAt d 0)) (acts n (Put (byteAt d 0) (byteAt d 1) (byteAt d 2) (byteAt d 3)))
             (λ p. record { node-fits = t; change-fits = (bytes 1, (bytes 2, bytes 3)) });
+        label = record { node-fits = t; change-fits = tt };
+        set-label =
+            or-fitting (setLabelCodes d) (acts (withLabel n (labelIn d)) Keep)
+            (λ p. record { node-fits = label-kept-typed n t (labelIn d) (so-many 16 d); change-fits = tt });
+        version = record { node-fits = t; change-fits = tt };
+        serial = record { node-fits = t; change-fits = tt };
         unknown = record { node-fits = t; change-fits = tt };
       })

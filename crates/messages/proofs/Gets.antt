@@ -15,8 +15,21 @@ use Rattle.messages.specs.Motor.{positionRow, statusRow}
 use Rattle.messages.specs.Ips.{ipCodes, ipData, ipRow}
 use Rattle.messages.specs.Locking.{lockRow}
 use Rattle.messages.specs.Addresses.{addressRow, groupCodes, groupData, groupRow}
-use Rattle.messages.specs.Table.{Get, get-position, get-status, get-ip, get-lock, get-address, get-group, outcomeOf}
-use Rattle.messages.proofs.Messages.{at-0C, at-0E, at-25, at-26, at-40, at-41, or-refused}
+use Rattle.messages.specs.Identity.{labelRow, versionRow, serialRow}
+use Rattle.messages.specs.Table.{
+  Get,
+  get-position,
+  get-status,
+  get-ip,
+  get-lock,
+  get-address,
+  get-group,
+  get-label,
+  get-version,
+  get-serial,
+  outcomeOf,
+}
+use Rattle.messages.proofs.Messages.{at-0C, at-0E, at-25, at-26, at-40, at-41, at-45, at-74, at-4C, or-refused}
 
 -- Neither the node nor the group table is changed.
 pub record Idle (n : Node) (o : Outcome) : Type 0 where
@@ -42,13 +55,16 @@ module _ (n : Node) (groups : Groups) (source : Address) (d : List ℕ) where
   idle-at m e i = subst (Idle n) (sym e) i
 
   by-message : (m k : ℕ) → m ≡ k → Get k → Idle n (outcomeOf n groups source m d)
-  unfolding positionRow statusRow lockRow addressRow
+  unfolding positionRow statusRow lockRow addressRow labelRow versionRow serialRow
   by-message m k e get-position = idle-at m (at-0C n groups source m d e) (record { node-kept = refl; table-kept = refl })
   by-message m k e get-status = idle-at m (at-0E n groups source m d e) (record { node-kept = refl; table-kept = refl })
   by-message m k e get-ip = idle-at m (at-25 n groups source m d e) (ip-idle n groups d)
   by-message m k e get-lock = idle-at m (at-26 n groups source m d e) (record { node-kept = refl; table-kept = refl })
   by-message m k e get-address = idle-at m (at-40 n groups source m d e) (record { node-kept = refl; table-kept = refl })
   by-message m k e get-group = idle-at m (at-41 n groups source m d e) (group-idle n groups d)
+  by-message m k e get-label = idle-at m (at-45 n groups source m d e) (record { node-kept = refl; table-kept = refl })
+  by-message m k e get-version = idle-at m (at-74 n groups source m d e) (record { node-kept = refl; table-kept = refl })
+  by-message m k e get-serial = idle-at m (at-4C n groups source m d e) (record { node-kept = refl; table-kept = refl })
 
   pub a-get-is-idle : (m : ℕ) → Get m → Idle n (outcomeOf n groups source m d)
   a-get-is-idle m g = by-message m m refl g

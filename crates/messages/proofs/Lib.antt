@@ -1,3 +1,4 @@
+pub mod FirstBytes
 pub mod Rows
 pub mod Orders
 pub mod Messages

@@ -14,6 +14,7 @@ use Rattle.messages.specs.Motor.{stopRow, moveRow, positionRow, statusRo
 use Rattle.messages.specs.Ips.{setIpRow, ipRow}
 use Rattle.messages.specs.Locking.{setLockRow, lockRow}
 use Rattle.messages.specs.Addresses.{addressRow, groupRow, setGroupRow}
+use Rattle.messages.specs.Identity.{labelRow, setLabelRow, versionRow, serialRow}
 use Rattle.messages.specs.Table.{messageRows, outcomeOf}
 
 module _ (n : Node) (groups : Groups) (source : Address) (m : ℕ) (d : List ℕ) where
@@ -61,10 +62,31 @@ module _ (n : Node) (groups : Groups) (source : Address) (m : ℕ) (d : List ℕ
   unfolding outcomeOf
   at-51 e = rw e
 
+  pub at-45 : m ≡ 0x45 → outcomeOf n groups source m d ≡ labelRow n
+  unfolding outcomeOf
+  at-45 e = rw e
+
+  pub at-55 : m ≡ 0x55 → outcomeOf n groups source m d ≡ setLabelRow n d
+  unfolding outcomeOf
+  at-55 e = rw e
+
+  pub at-74 : m ≡ 0x74 → outcomeOf n groups source m d ≡ versionRow n
+  unfolding outcomeOf
+  at-74 e = rw e
+
+  pub at-4C : m ≡ 0x4C → outcomeOf n groups source m d ≡ serialRow n
+  unfolding outcomeOf
+  at-4C e = rw e
+
   pub at-no-row : Passed (messageRows n groups source m d) → outcomeOf n groups source m d ≡ refuses n Code.UnknownMessage
   unfolding outcomeOf
   at-no-row = no-row-applies (messageRows n groups source m d) (refuses n Code.UnknownMessage)
 
+-- A fact of a row, and those of the rows behind it.
+abbrev pub _then_ : {A B : Type 0} → A → B → A × B
+_then_ a b = (a, b)
+
+infixr 5 _then_
 -- What holds of each row of the table.
 pub record EachRow (P : Outcome → Type 0) (n : Node) (groups : Groups) (source : Address) (d : List ℕ) : Type 0 where
   pub stop : P (stopRow n d)
@@ -78,6 +100,10 @@ pub record EachRow (P : Outcome → Type 0) (n : Node) (groups : Groups) (source
   pub address : P (addressRow n)
   pub group : P (groupRow n groups d)
   pub set-group : P (setGroupRow n d)
+  pub label : P (labelRow n)
+  pub set-label : P (setLabelRow n d)
+  pub version : P (versionRow n)
+  pub serial : P (serialRow n)
   pub unknown : P (refuses n Code.UnknownMessage)
 
 pub every-message : (P : Outcome → Type 0) (n : Node) (groups : Groups) (source : Address) (m : ℕ) (d : List ℕ)
@@ -85,7 +111,8 @@ pub every-message : (P : Outcome → Type 0) (n : Node) (groups : Groups) (sourc
 unfolding outcomeOf
 every-message P n groups source m d r =
     of-decided P (messageRows n groups source m d) (refuses n Code.UnknownMessage)
-    (r .stop, (r .move, (r .position, (r .status, (r .set-ip, (r .ip, (r .set-lock, (r .lock, (r .address, (r .group, (r .set-group, tt)))))))))))
+    (r .stop then r .move then r .position then r .status then r .set-ip then r .ip then r .set-lock then r .lock then r .address then r .group
+    then r .set-group then r .label then r .set-label then r .version then r .serial then tt)
     (λ none. r .unknown)
 
 -- What holds of every refusal, and of what is done where no code applies, holds of a row.

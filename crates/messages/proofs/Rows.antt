@@ -11,6 +11,7 @@ use Rattle.meaning.specs.Tables.{Applies, answerAt, decided}
 use Rattle.frame.specs.declared.address.Address.{Address}
 use Rattle.travel.specs.Units.{ip}
 use Rattle.board.specs.Groups.{Groups}
+use Rattle.board.specs.Node.{withLabel}
 use Rattle.board.specs.declared.groups.Change.the-variants.{Keep, Put}
 use Rattle.board.specs.declared.whole.Node.{Node}
 use Rattle.messages.specs.Fields.{byteAt, holds}
@@ -19,6 +20,7 @@ use Rattle.messages.specs.Motor.{stopCodes, stopped, stopRow, aimIn, tar
 use Rattle.messages.specs.Ips.{orderIn, ordered, setIpCodes, keepingIps, setIpRow, ipCodes, ipData, ipRow}
 use Rattle.messages.specs.Locking.{setLockCodes, lockedBy, setLockRow}
 use Rattle.messages.specs.Addresses.{groupCodes, groupData, groupRow, setGroupRow}
+use Rattle.messages.specs.Identity.{labelIn, setLabelCodes, setLabelRow}
 
 -- 11h, from the test as the code asks it.
 module _ (least : ℕ) (d : List ℕ) {asked : Bool} (e : asked ≡ holds least d) where
@@ -65,3 +67,8 @@ module _ (n : Node) (d : List ℕ) (passed : ℕ) where
       ≡ answerAt passed (refusals n (groupCodes 4 d (byteAt d 0))) (acts n (Put (byteAt d 0) (byteAt d 1) (byteAt d 2) (byteAt d 3)))
   unfolding setGroupRow
   set-group-at = decided passed (refusals n (groupCodes 4 d (byteAt d 0))) (acts n (Put (byteAt d 0) (byteAt d 1) (byteAt d 2) (byteAt d 3)))
+
+  pub set-label-at : Applies passed (refusals n (setLabelCodes d))
+      → setLabelRow n d ≡ answerAt passed (refusals n (setLabelCodes d)) (acts (withLabel n (labelIn d)) Keep)
+  unfolding setLabelRow
+  set-label-at = decided passed (refusals n (setLabelCodes d)) (acts (withLabel n (labelIn d)) Keep)

@@ -18,7 +18,7 @@ use Rattle.board.specs.Drive.{halted, movedTo, driveWithin}
 use Rattle.board.specs.Favourites.{pulseOf, withIp, sharedOut, ipWithin, ipsWithin}
 use Rattle.board.specs.Groups.{Groups}
 use Rattle.board.specs.Lock.{locked, unlocked, saving}
-use Rattle.board.specs.Node.{sound, withDrive, withFavourites, withLock}
+use Rattle.board.specs.Node.{sound, withDrive, withFavourites, withLock, withLabel}
 use Rattle.board.specs.declared.drive.Drive.{Drive}
 use Rattle.board.specs.declared.favourites.Favourites.{Favourites}
 use Rattle.board.specs.declared.favourites.Ip.{Ip}
@@ -28,7 +28,7 @@ use Rattle.board.specs.declared.groups.Change.the-variants.{Keep, Put}
 use Rattle.board.specs.declared.lock.Lock.{Lock}
 use Rattle.board.specs.declared.whole.Node.{Node}
 use Rattle.board.proofs.Within.{position-within, moved-within, halted-within, shared-within, ip-at-within, with-ip-within}
-use Rattle.board.proofs.Sound.{parts-of, drive-kept-sound, favourites-kept-sound, lock-kept-sound}
+use Rattle.board.proofs.Sound.{parts-of, drive-kept-sound, favourites-kept-sound, lock-kept-sound, label-kept-sound}
 use Rattle.messages.specs.declared.code.Code.{Code}
 use Rattle.messages.specs.declared.favourites.Order.{Order}
 use Rattle.messages.specs.declared.favourites.Order.the-variants.{Delete, Here, AtPercent, Share, Nothing}
@@ -41,6 +41,7 @@ use Rattle.messages.specs.Motor.{stopCodes, stopped, stopRow, aimIn, tar
 use Rattle.messages.specs.Ips.{orderIn, ordered, setIpCodes, keepingIps, setIpRow, ipCodes, ipData, ipRow}
 use Rattle.messages.specs.Locking.{setLockCodes, lockedBy, setLockRow, lockRow}
 use Rattle.messages.specs.Addresses.{addressRow, groupCodes, groupData, groupRow, setGroupRow}
+use Rattle.messages.specs.Identity.{labelIn, labelRow, setLabelCodes, setLabelRow, versionRow, serialRow}
 use Rattle.messages.specs.Table.{outcomeOf}
 use Rattle.messages.proofs.Messages.{EachRow, every-message, or-refused}
 
@@ -156,9 +157,16 @@ module _ (n : Node) (s : sound n ≡ true) where
       or-safe (groupCodes 4 d (byteAt d 0)) (acts n (Put (byteAt d 0) (byteAt d 1) (byteAt d 2) (byteAt d 3)))
       (λ p. record { still-sound = s; settings-kept = refl; entry-in-table = p .1 .0 })
 
+  -- The label.
+  set-label-safe : (d : List ℕ) → Safe n (setLabelRow n d)
+  unfolding setLabelRow
+  set-label-safe d =
+      or-safe (setLabelCodes d) (acts (withLabel n (labelIn d)) Keep)
+      (λ p. record { still-sound = label-kept-sound n s (labelIn d) (p .1 .0); settings-kept = refl; entry-in-table = tt })
+
   pub every-message-is-safe : (groups : Groups) (source : Address) (m : ℕ) (d : List ℕ) → source .0 ≤ 0xFFFFFF
       → Safe n (outcomeOf n groups source m d)
-  unfolding positionRow statusRow lockRow addressRow
+  unfolding positionRow statusRow lockRow addressRow labelRow versionRow serialRow
   every-message-is-safe groups source m d a =
       every-message (Safe n) n groups source m d
       (record {
@@ -173,5 +181,9 @@ module _ (n : Node) (s : sound n ≡ true) where
         address = nothing-done;
         group = group-safe groups d;
         set-group = set-group-safe d;
+        label = nothing-done;
+        set-label = set-label-safe d;
+        version = nothing-done;
+        serial = nothing-done;
         unknown = nothing-done;
       })

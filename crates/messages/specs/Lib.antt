@@ -5,4 +5,5 @@ pub mod Motor
 pub mod Ips
 pub mod Locking
 pub mod Addresses
+pub mod Identity
 pub mod Table

@@ -1,4 +1,4 @@
--- The message table of the node (document 01), row by row.
+-- The message table of the node (document 01, and document 02 where it adds to it), row by row.
 -- Assumes nothing.
 use Prim.Native.Nat.{ℕ}
 use mathlib.Core.List.{List, [], _∷_}
@@ -12,6 +12,7 @@ use Rattle.messages.specs.Motor.{stopRow, moveRow, positionRow, statusRo
 use Rattle.messages.specs.Ips.{setIpRow, ipRow}
 use Rattle.messages.specs.Locking.{setLockRow, lockRow}
 use Rattle.messages.specs.Addresses.{addressRow, groupRow, setGroupRow}
+use Rattle.messages.specs.Identity.{labelRow, setLabelRow, versionRow, serialRow}
 use Rattle.messages.specs.declared.code.Code.{Code}
 use Rattle.messages.specs.declared.outcome.Outcome.{Outcome}
 
@@ -29,6 +30,10 @@ messageRows n groups source message d =
     ∷ addressRow n when message is 0x40
     ∷ groupRow n groups d when message is 0x41
     ∷ setGroupRow n d when message is 0x51
+    ∷ labelRow n when message is 0x45
+    ∷ setLabelRow n d when message is 0x55
+    ∷ versionRow n when message is 0x74
+    ∷ serialRow n when message is 0x4C
     ∷ []
 
 -- The first code, 10h: any other message is unknown.
@@ -43,3 +48,6 @@ pub data Get : ℕ → Type 0 where
   get-lock : Get 0x26
   get-address : Get 0x40
   get-group : Get 0x41
+  get-label : Get 0x45
+  get-version : Get 0x74
+  get-serial : Get 0x4C

@@ -3,14 +3,17 @@ use crate::code::Code;
 use crate::fields::holds;
 use crate::outcome::Outcome;
 use crate::outcome::acts;
+use crate::outcome::in_twenty;
 use crate::outcome::posts;
 use crate::outcome::refuses;
 use board::Change;
 use board::Node;
 use frame::data_byte;
 ghost use mathlib.Core.Path.{_≡_};
+ghost use Prim.Native.Nat.{_≤_};
 ghost use Rattle.frame.specs.Layout.{dataOf};
-ghost use Rattle.messages.specs.Addresses.{addressRow, groupRow, setGroupRow};
+ghost use Rattle.messages.specs.Addresses.{addressRow, groupData, groupRow, setGroupRow};
+ghost use Rattle.messages.specs.Outcome.{inTwenty};
 
 // 40h, answered 60h: the header says it all.
 pub(crate) fn post_address(node: Node) -> Outcome
@@ -30,14 +33,7 @@ pub(crate) fn post_group(node: Node, groups: [[u8; 3]; 16], bundle: &[u8]) -> Ou
     if index > 15 {
         return refuses(node, Code::OutOfRange);
     }
-    let place = index as usize;
-    let entry = groups[place];
-    let mut content = [0u8; 20];
-    content[0] = index;
-    content[1] = entry[0];
-    content[2] = entry[1];
-    content[3] = entry[2];
-    posts(node, 0x61, 4, content)
+    posts(node, 0x61, 4, group_told(groups, index))
 }
 
 // 51h SET_GROUP_ADDR: index, group of any value.
@@ -55,4 +51,13 @@ pub(crate) fn set_group(node: Node, bundle: &[u8]) -> Outcome
     let middle = data_byte(bundle, 2);
     let high = data_byte(bundle, 3);
     acts(node, Change::Put(index, low, middle, high))
+}
+
+// Index, group.
+fn group_told(groups: [[u8; 3]; 16], index: u8) -> [u8; 20]
+    requires { ⌜ index ≤ 15 ⌝ }
+    ensures { λ r. ⌜ r ≡ inTwenty (groupData groups index) ⌝ }
+{
+    let entry = groups[index as usize];
+    in_twenty(&[index, entry[0], entry[1], entry[2]])
 }

@@ -3,6 +3,7 @@ use crate::code::Code;
 use crate::fields::holds;
 use crate::outcome::Outcome;
 use crate::outcome::acts;
+use crate::outcome::in_twenty;
 use crate::outcome::posts;
 use crate::outcome::refuses;
 use board::Change;
@@ -17,9 +18,11 @@ use travel::Pulse;
 use travel::percent_of_pulse;
 use travel::pulse_of_percent;
 ghost use mathlib.Core.Path.{_≡_};
-ghost use Rattle.board.specs.Favourites.{isNumber, isSet};
+ghost use mathlib.Core.List.{[], _∷_};
+ghost use Rattle.board.specs.Favourites.{isNumber, isSet, ipAt};
 ghost use Rattle.frame.specs.Layout.{dataOf};
 ghost use Rattle.messages.specs.Ips.{orderOf, shareOrder, isOrder, findsItsIp, ordered, setIpRow, percentOr, ipRow};
+ghost use Rattle.messages.specs.Outcome.{inTwenty};
 
 // What SET_MOTOR_IP is to do.
 pub enum Order {
@@ -67,13 +70,7 @@ pub(crate) fn post_ip(node: Node, bundle: &[u8]) -> Outcome
     }
     let favourites = node.favourites;
     let travel = node.settings.travel;
-    let ip = favourites.ip_at(index);
-    let mut content = [0u8; 20];
-    content[0] = index.0;
-    content[1] = 0xFF;
-    content[2] = 0xFF;
-    content[3] = percent_or(ip, travel);
-    posts(node, 0x35, 4, content)
+    posts(node, 0x35, 4, ip_told(favourites, travel, index))
 }
 
 fn order_of(function: u8, index: IpIndex, value: u16) -> Order
@@ -184,4 +181,13 @@ fn percent_or(ip: Ip, travel: Pulse) -> u8
             percent.0
         }
     }
+}
+
+// Index, reserved, percent or FFh.
+fn ip_told(favourites: Favourites, travel: Pulse, index: IpIndex) -> [u8; 20]
+    ensures { λ r. ⌜ r ≡ inTwenty (index .0 ∷ 0xFF ∷ 0xFF ∷ percentOr (ipAt favourites index) travel ∷ []) ⌝ }
+{
+    let ip = favourites.ip_at(index);
+    let percent = percent_or(ip, travel);
+    in_twenty(&[index.0, 0xFF, 0xFF, percent])
 }

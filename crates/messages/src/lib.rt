@@ -4,6 +4,7 @@ mod addresses;
 mod code;
 mod favourites;
 mod fields;
+mod identity;
 mod lock;
 mod motor;
 mod outcome;

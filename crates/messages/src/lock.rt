@@ -4,6 +4,7 @@ use crate::fields::bit;
 use crate::fields::holds;
 use crate::outcome::Outcome;
 use crate::outcome::acts;
+use crate::outcome::in_twenty;
 use crate::outcome::posts;
 use crate::outcome::refuses;
 use board::Change;
@@ -13,11 +14,15 @@ use frame::Address;
 use frame::data_byte;
 ghost use mathlib.Core.Path.{_≡_};
 ghost use mathlib.Core.Bool.{not, _&&_};
+ghost use mathlib.Core.List.{[], _∷_, _++_};
 ghost use lib.Dec.{leb};
 ghost use Rattle.meaning.specs.Membership.{isIn};
+ghost use Rattle.frame.specs.Address.{bytesOf};
 ghost use Rattle.frame.specs.Layout.{dataOf};
 ghost use Rattle.board.specs.Lock.{admits};
+ghost use Rattle.messages.specs.Fields.{bit};
 ghost use Rattle.messages.specs.Locking.{lockFunctions, lockedBy, setLockRow, lockRow};
+ghost use Rattle.messages.specs.Outcome.{inTwenty};
 
 // 16h SET_NETWORK_LOCK: function, priority.
 pub(crate) fn set_lock(node: Node, source: Address, bundle: &[u8]) -> Outcome
@@ -43,18 +48,8 @@ pub(crate) fn set_lock(node: Node, source: Address, bundle: &[u8]) -> Outcome
 pub(crate) fn post_lock(node: Node) -> Outcome
     ensures { λ r. ⌜ r ≡ lockRow node ⌝ }
 {
-    let holder = node.lock.holder;
-    let source = holder.to_bytes();
-    let locked = bit(node.lock.locked);
-    let saved = bit(node.lock.saved);
-    let mut content = [0u8; 20];
-    content[0] = locked;
-    content[1] = source[0];
-    content[2] = source[1];
-    content[3] = source[2];
-    content[4] = node.lock.priority;
-    content[5] = saved;
-    posts(node, 0x36, 6, content)
+    let lock = node.lock;
+    posts(node, 0x36, 6, lock_told(lock))
 }
 
 // 0 unlock, 1 lock, 3 and 4 set and clear "saved".
@@ -95,4 +90,25 @@ fn locked_by(node: Node, source: Address, function: u8, priority: u8) -> Node
         3 => node.with_lock(lock.saving(true)),
         _ => node.with_lock(lock.saving(false)),
     }
+}
+
+// Status, source, priority, saved.
+fn lock_told(lock: Lock) -> [u8; 20]
+    ensures { λ r.
+        ⌜ r ≡ inTwenty (bit (lock .locked) ∷ (bytesOf (lock .holder) ++ (lock .priority ∷ bit (lock .saved) ∷ []))) ⌝ }
+{
+    let holder = lock.holder;
+    let source = holder.to_bytes();
+    let locked = bit(lock.locked);
+    let saved = bit(lock.saved);
+    in_twenty(
+        &[
+            locked,
+            source[0],
+            source[1],
+            source[2],
+            lock.priority,
+            saved,
+        ],
+    )
 }

@@ -3,9 +3,12 @@ use crate::code::Code;
 use crate::fields::holds;
 use crate::outcome::Outcome;
 use crate::outcome::acts;
+use crate::outcome::in_twenty;
 use crate::outcome::posts;
 use crate::outcome::refuses;
 use board::Change;
+use board::Drive;
+use board::Favourites;
 use board::Ip;
 use board::Node;
 use frame::data_byte;
@@ -16,8 +19,13 @@ use travel::Pulse;
 use travel::percent_of_pulse;
 use travel::pulse_of_percent;
 ghost use mathlib.Core.Path.{_≡_};
+ghost use mathlib.Core.List.{[], _∷_, _++_};
+ghost use Rattle.travel.specs.Position.{percentOfPulse};
+ghost use Rattle.board.specs.Favourites.{reportedIp};
 ghost use Rattle.frame.specs.Layout.{dataOf};
+ghost use Rattle.frame.specs.Words.{bytesOfWord};
 ghost use Rattle.messages.specs.Motor.{aimOf, isAim, targetOf, stopRow, moveRow, positionRow, statusRow};
+ghost use Rattle.messages.specs.Outcome.{inTwenty};
 
 // Where MOVETO is to go.
 pub enum Aim {
@@ -83,17 +91,7 @@ pub(crate) fn post_position(node: Node) -> Outcome
     let position = node.drive.position;
     let travel = node.settings.travel;
     let favourites = node.favourites;
-    let low = (position.0 % 256) as u8;
-    let high = (position.0 / 256) as u8;
-    let percent = percent_of_pulse(position, travel);
-    let ip = favourites.reported_ip(position);
-    let mut content = [0u8; 20];
-    content[0] = low;
-    content[1] = high;
-    content[2] = percent.0;
-    content[3] = 0xFF;
-    content[4] = ip;
-    posts(node, 0x0D, 5, content)
+    posts(node, 0x0D, 5, position_told(position, travel, favourites))
 }
 
 // 0Eh, answered 0Fh: status, direction, source, cause.
@@ -101,12 +99,8 @@ pub(crate) fn post_status(node: Node) -> Outcome
     ensures { λ r. ⌜ r ≡ statusRow node ⌝ }
 {
     let status = node.status();
-    let mut content = [0u8; 20];
-    content[0] = status;
-    content[1] = node.drive.direction;
-    content[2] = node.drive.source;
-    content[3] = node.drive.cause;
-    posts(node, 0x0F, 4, content)
+    let drive = node.drive;
+    posts(node, 0x0F, 4, status_told(status, drive))
 }
 
 fn aim_of(function: u8, position: u16) -> Aim
@@ -158,4 +152,24 @@ fn target_of(node: Node, aim: Aim) -> Ip
         Aim::ToPercent(percent) => Ip::At(pulse_of_percent(percent, travel)),
         Aim::Nowhere => Ip::Unset,
     }
+}
+
+// Pulse, percent, reserved, IP.
+fn position_told(position: Pulse, travel: Pulse, favourites: Favourites) -> [u8; 20]
+    ensures { λ r.
+        ⌜ r ≡ inTwenty (bytesOfWord (position .0)
+        ++ (percentOfPulse position travel .0 ∷ 0xFF ∷ reportedIp favourites position ∷ [])) ⌝ }
+{
+    let low = (position.0 % 256) as u8;
+    let high = (position.0 / 256) as u8;
+    let percent = percent_of_pulse(position, travel);
+    let ip = favourites.reported_ip(position);
+    in_twenty(&[low, high, percent.0, 0xFF, ip])
+}
+
+// Status, direction, source, cause.
+fn status_told(status: u8, drive: Drive) -> [u8; 20]
+    ensures { λ r. ⌜ r ≡ inTwenty (status ∷ drive .direction ∷ drive .source ∷ drive .cause ∷ []) ⌝ }
+{
+    in_twenty(&[status, drive.direction, drive.source, drive.cause])
 }

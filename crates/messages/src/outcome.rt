@@ -4,7 +4,9 @@ use board::Change;
 use board::Node;
 ghost use mathlib.Core.Path.{_≡_};
 ghost use Rattle.messages.specs.declared.outcome.Say.the-variants.{Post};
-ghost use Rattle.messages.specs.Outcome.{outcome, acts, refuses};
+ghost use Prim.Native.Nat.{_≤_};
+ghost use lib.ListN.{length};
+ghost use Rattle.messages.specs.Outcome.{outcome, inTwenty, acts, refuses};
 ghost use Rattle.board.specs.declared.groups.Change.the-variants.{Keep};
 
 // What is to be said to whoever asks for an answer.
@@ -65,4 +67,18 @@ pub(crate) fn refuses(node: Node, code: Code) -> Outcome
         count: 1,
         content,
     }
+}
+
+// DATA, and zeros behind it.
+pub(crate) fn in_twenty(content: &[u8]) -> [u8; 20]
+    requires { ⌜ length (now content) ≤ 20 ⌝ }
+    ensures { λ r. ⌜ r ≡ inTwenty (now (content .entry)) ⌝ }
+{
+    let mut twenty = [0u8; 20];
+    let mut place = 0;
+    while place < content.len() {
+        twenty[place] = content[place];
+        place += 1;
+    }
+    twenty
 }

@@ -2,6 +2,7 @@
 use crate::addresses;
 use crate::code::Code;
 use crate::favourites;
+use crate::identity;
 use crate::lock;
 use crate::motor;
 use crate::outcome::Outcome;
@@ -34,6 +35,10 @@ pub fn outcome_of(
         0x40 => addresses::post_address(node),
         0x41 => addresses::post_group(node, groups, bundle),
         0x51 => addresses::set_group(node, bundle),
+        0x45 => identity::post_label(node),
+        0x55 => identity::set_label(node, bundle),
+        0x74 => identity::post_version(node),
+        0x4C => identity::post_serial(node),
         _ => refuses(node, Code::UnknownMessage),
     }
 }

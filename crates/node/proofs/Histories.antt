@@ -11,7 +11,7 @@ use Rattle.frame.specs.Layout.{inverted, message, source, headerOf, dataOf, dat
 use Rattle.board.specs.Groups.{Groups, noGroups}
 use Rattle.board.specs.Node.{fresh, sound}
 use Rattle.board.specs.Settings.{inRange}
-use Rattle.board.specs.Typed.{Typed}
+use Rattle.board.specs.Typed.{Typed, SettingsTyped}
 use Rattle.board.specs.declared.settings.Settings.{Settings}
 use Rattle.board.specs.declared.whole.Node.{Node}
 use Rattle.board.proofs.Sound.{fresh-is-sound, at-pulse-keeps-sound, blocked-keeps-sound, cleared-keeps-sound, power-up-keeps-sound}
@@ -92,12 +92,12 @@ a-history-keeps-what-fits w [] f = f
 a-history-keeps-what-fits w (i ∷ later) f = a-history-keeps-what-fits (after w i) later (after-fits w i f)
 
 -- ---- from set-up on
-module _ (s : Settings) (r : inRange s ≡ true) (h : s .travel .0 ≤ 65535) (l : List Input) where
+module _ (s : Settings) (r : inRange s ≡ true) (h : SettingsTyped s) (l : List Input) where
   pub sound-from-set-up : sound (lived (begun s) l .node) ≡ true
   sound-from-set-up = a-history-keeps-sound (begun s) l (fresh-is-sound s r)
 
   pub fits-from-set-up : Fits (lived (begun s) l)
-  fits-from-set-up = a-history-keeps-what-fits (begun s) l (record { node-fits = fresh-is-typed s (omega arith); table-fits = no-groups-typed })
+  fits-from-set-up = a-history-keeps-what-fits (begun s) l (record { node-fits = fresh-is-typed s h; table-fits = no-groups-typed })
 
   -- The board and its table once all that has happened.
   abbrev now : State

@@ -125,7 +125,7 @@ asker-type b = omega arith
 -- An own address and type that are in range fit a frame.
 ranges : (c : Settings) → inRange c ≡ true → (c .id .0 ≤ 0xFFFFFF) × (c .kind ≤ 15)
 ranges c e =
-    let (id, (from-1, (to-15, from-100))) = settings-facts c e in
+    let (id, (from-1, (to-15, behind))) = settings-facts c e in
     (omega (arith, id .1), to-15)
 
 -- Whatever is said is a reply message, which is below FFh.
@@ -144,6 +144,9 @@ every-message-says-a-reply n g b =
       lock = one-of 0x36 replies refl;
       address = one-of 0x60 replies refl;
       group = λ e. one-of 0x61 replies refl;
+      label = one-of 0x65 replies refl;
+      version = one-of 0x75 replies refl;
+      serial = one-of 0x6C replies refl;
     })
 
 -- Each of a list is below a bound.

@@ -28,6 +28,9 @@ returns-4 : tie.Need-returns-4
 returns-4 c = c .shared-out .ensures ∙ sym
     (ap (ordered (c .before .before .before .before .before .before .before .args .node)) (c .before .before .order4 .given .1))
 
+returns-5 : tie.Need-returns-5
+returns-5 c = sym (ap (ordered (c .before .before .before .before .before .args .node)) (c .enum-told .given .1))
+
 pub ordered-spec : {M : Type 1} → statement M
 ordered-spec =
     tie.close
@@ -46,4 +49,4 @@ ordered-spec =
     returns-2
     returns-3
     returns-4
-    (λ c. search needs))
+    returns-5)

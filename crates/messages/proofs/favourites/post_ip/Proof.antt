@@ -2,17 +2,18 @@
 -- Assumes nothing.
 use borrow.Author.Needs.{needs}
 use mathlib.Core.Path.{_≡_, _∙_, sym, ap}
-use mathlib.Core.List.{List, [], _∷_}
+use mathlib.Core.List.{List}
 use Prim.Native.Nat.{ℕ, _≤_}
 use lib.ListN.{length}
 use Rattle.meaning.specs.Chosen.{found-false, found-true}
 use Rattle.travel.specs.Units.{ip}
 use Rattle.board.specs.Favourites.{isNumber}
-use Rattle.board.specs.declared.favourites.Ip.{Ip}
+use Rattle.board.specs.declared.groups.Change.the-variants.{Keep}
 use Rattle.frame.specs.Layout.{dataOf}
+use Rattle.messages.specs.declared.outcome.Say.the-variants.{Post}
 use Rattle.messages.specs.Fields.{byteAt}
-use Rattle.messages.specs.Ips.{percentOr, ipData}
-use Rattle.messages.specs.Outcome.{posts}
+use Rattle.messages.specs.Ips.{ipData}
+use Rattle.messages.specs.Outcome.{outcome, posts}
 use Rattle.messages.proofs.Rows.{too-little, enough, ip-at}
 use Rattle.messages.proofs.favourites.post_ip.Statement.{statement}
 use Rattle.messages.proofs.favourites.post_ip.Tie as tie
@@ -40,14 +41,12 @@ returns-2 c =
 
 returns-3 : tie.Need-returns-3
 returns-3 c =
-    let i = c .before .before .before .before .before .before in
+    let i = c .before .before .before .before .before in
     let x = i .before .before .before .before .before .args in
-    let index = i .before .data-byte .result in
     c .posts .ensures
-    ∙ ap (λ (k : ℕ). posts (x .node) 0x35 (index ∷ 0xFF ∷ 0xFF ∷ k ∷ []))
-    (c .before .percent-or .ensures ∙ ap (λ (p : Ip). percentOr p (x .node .settings .travel)) (c .before .before .ip-at .ensures))
+    ∙ ap (λ (content : List ℕ). outcome (x .node) Keep (Post 0x35) 4 content) (c .before .ip-told .ensures)
     ∙ ap (λ (k : ℕ). posts (x .node) 0x35 (ipData (x .node) (ip k))) (i .before .data-byte .ensures)
-    ∙ sym (ip-at (x .node) (dataOf (x .bundle .now)) 2 (one i, (found-true (numbered i) (c .before .before .before .before .before .if2 .left), tt)))
+    ∙ sym (ip-at (x .node) (dataOf (x .bundle .now)) 2 (one i, (found-true (numbered i) (c .before .before .before .before .if2 .left), tt)))
 
 pub post-ip-spec : {M : Type 1} → statement M
 post-ip-spec =
@@ -61,10 +60,5 @@ post-ip-spec =
     (λ c κs. search needs)
     returns-2
     (λ c κs. search needs)
-    (λ c. search needs)
-    (λ c. search needs)
-    (λ c. search needs)
-    (λ c κs. search needs)
-    (λ c. search needs)
     (λ c κs. search needs)
     returns-3)

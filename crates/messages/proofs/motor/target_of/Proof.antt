@@ -24,6 +24,9 @@ returns-4 c =
     let x = c .before .before .before .before .before .before .args in
     ap (λ (p : Pulse). At p) (c .pulse-of-percent .ensures) ∙ sym (ap (targetOf (x .node)) (c .before .before .aim2 .given .1))
 
+returns-5 : tie.Need-returns-5
+returns-5 c = sym (ap (targetOf (c .before .before .before .before .args .node)) (c .enum-told3 .given .1))
+
 pub target-of-spec : {M : Type 1} → statement M
 target-of-spec =
     tie.close
@@ -39,4 +42,4 @@ target-of-spec =
     returns-2
     returns-3
     returns-4
-    (λ c. search needs))
+    returns-5)
