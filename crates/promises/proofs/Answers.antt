@@ -5,8 +5,9 @@ use native.Mathlib.Omega.{arith}
 use mathlib.Core.Path.{_≡_, refl, _∙_, ap, subst}
 use mathlib.Core.Bool.{Bool, true, false}
 use mathlib.Core.List.{List, [], _∷_}
-use lib.ListN.{length, getD}
+use lib.ListN.{length, getD, drop}
 use Rattle.meaning.specs.Bytes.{Bytes}
+use Rattle.serial.specs.Serial.{serialOf}
 use Rattle.frame.specs.Layout.{message, source, dataOf}
 use Rattle.board.specs.Groups.{Groups}
 use Rattle.board.specs.declared.favourites.Ip.{Ip}
@@ -18,16 +19,20 @@ use Rattle.messages.specs.Motor.{positionRow, positionData, statusRow, statusDa
 use Rattle.messages.specs.Ips.{percentOr}
 use Rattle.messages.specs.Locking.{lockRow, lockData}
 use Rattle.messages.specs.Addresses.{addressRow}
-use Rattle.messages.proofs.Messages.{at-0C, at-0E, at-26, at-40}
+use Rattle.messages.specs.Identity.{firstOf, labelRow, versionOf, versionRow, serialData, serialRow}
+use Rattle.messages.proofs.Messages.{at-0C, at-0E, at-26, at-40, at-45, at-74, at-4C}
+use Rattle.messages.proofs.FirstBytes.{so-many, the-whole}
 use Rattle.messages.proofs.Contents.{content-is, all-bytes}
 use Rattle.node.specs.Frames.{turnOf}
 use Rattle.promises.specs.Typed.{Typed, TypedTable}
 use Rattle.promises.specs.BoardParts.{ipOf}
+use Rattle.promises.specs.Serials.{SerialRules}
 use Rattle.promises.specs.Demand2.Codes.{Accepted, ipRows, groupRows}
 use Rattle.promises.specs.Demand2.Turns.{Posted}
 use Rattle.promises.specs.Demand2.Effects.{Arrives}
 use Rattle.promises.specs.Demand2.Answers.{oneIf, Answers}
 use Rattle.promises.proofs.BoardInRange.{is-sound}
+use Rattle.promises.proofs.Serials.{serials}
 use Rattle.promises.proofs.Typed.{for-its-laws}
 use Rattle.promises.proofs.Turns.{cameTo, posted}
 use Rattle.promises.proofs.Codes.{ip-at-is, accepted-index, ip-by, group-by}
@@ -84,6 +89,45 @@ module _ (n : Node) (g : Groups) (b : List ℕ) (a : Arrives n g b) (t : Typed n
       ∙ ap (λ (entry : List ℕ). posts n 0x61 (byteAt content 0 ∷ getD entry 0 0 ∷ getD entry 1 0 ∷ getD entry 2 0 ∷ [])) e)
       (omega arith) (omega arith)
 
+  -- 45h, 74h and 4Ch
+  label-told : message b ≡ 0x45 → Posted n b (turnOf n g b) 0x65 (n .label)
+  unfolding labelRow
+  label-told m =
+      let sixteen = t .sixteen-characters in
+      told 0x65 (n .label)
+      (at-45 n g (source b) (message b) content m ∙ ap (posts n 0x65) (the-whole 16 (n .label) sixteen)) (omega arith) (omega arith)
+
+  version-told : message b ≡ 0x74 → Posted n b (turnOf n g b) 0x75 (versionOf (n .settings .plate))
+  unfolding versionRow
+  version-told m = told 0x75 (versionOf (n .settings .plate)) (at-74 n g (source b) (message b) content m) (omega arith) (omega arith)
+
+  abbrev id : ℕ
+  id = n .settings .id .0
+
+  abbrev origin : List ℕ
+  origin = n .settings .plate .origin
+
+  six : length origin ≡ 6
+  six = t .settings-fit .six-characters
+
+  serial-told : message b ≡ 0x4C
+      → (serial : List ℕ) × (SerialRules id serial × ((drop 6 serial ≡ origin) × Posted n b (turnOf n g b) 0x6C serial))
+  unfolding serialRow
+  serial-told m =
+      let right = serials .a-serial-is-right-where-its-origin-is id origin six
+      ∙ serials .origins-are-told origin .1 (a .in-range .settings-in-range .maker-year-and-week) in (
+        serialOf id origin,
+        (
+          serials .right-serials-are-told id (serialOf id origin) .0 right,
+          (
+            serials .the-origin-is-read-back id origin,
+            told 0x6C (serialOf id origin)
+                (at-4C n g (source b) (message b) content m ∙ ap (λ (o : List ℕ). posts n 0x6C (serialOf id o)) (the-whole 6 origin six))
+                (omega arith) (omega (arith, six)),
+          ),
+        ),
+      )
+
   pub answers : Answers n g b (turnOf n g b)
   answers =
       record {
@@ -94,4 +138,7 @@ module _ (n : Node) (g : Groups) (b : List ℕ) (a : Arrives n g b) (t : Typed n
         the-lock-is-told = λ m. rw (bit-is (n .lock .locked), bit-is (n .lock .saved)) at (lock-told m);
         the-address-is-told = address-told;
         a-group-is-told = group-told;
+        the-label-is-told = label-told;
+        the-version-is-told = version-told;
+        the-serial-number-is-told = serial-told;
       }

@@ -47,6 +47,7 @@ lock-contracts =
 pub board-contracts : BoardContracts
 board-contracts =
     record {
+      plate-in-range-is = λ κs a. (refl, (tt, λ x s p. p));
       in-range-is = λ κs a. (refl, (tt, λ x s p. p));
       drive = drive-contracts;
       favourites = favourites-contracts;
@@ -57,6 +58,9 @@ board-contracts =
       with-drive-is = λ κs a. (refl, (tt, λ x s p. p));
       with-favourites-is = λ κs a. (refl, (tt, λ x s p. p));
       with-lock-is = λ κs a. (refl, (tt, λ x s p. p));
+      with-label-is = λ κs a. (refl, (tt, λ x s p. p));
+      blank-label-is = λ κs a. (refl, (tt, λ x s p. p));
+      is-label-is = λ κs a. (refl, (tt, λ x s p. p));
       set-up-is = λ κs a. (refl, (tt, λ x s p. p));
       at-pulse-is = λ κs a. (refl, (tt, λ x s p. p));
       blocked-is = λ κs a. (refl, (tt, λ x s p. p));

@@ -21,20 +21,27 @@ use Rattle.board.specs.declared.favourites.Ip.the-variants.{Unset, At}
 use Rattle.board.specs.declared.favourites.Slot.{Slot}
 use Rattle.board.specs.declared.settings.Settings.{Settings}
 use Rattle.board.specs.declared.whole.Node.{Node}
-use Rattle.board.proofs.Sound.{settings-facts, parts-of, sound-of}
+use Rattle.board.proofs.Sound.{settings-facts, plate-facts, parts-of, sound-of}
 use Rattle.promises.specs.BoardParts.{slot}
 use Rattle.promises.specs.BoardInRange.{SettingsInRange, BoardInRange}
+use Rattle.promises.proofs.Labels.{characters-are, characters-so}
+use Rattle.promises.proofs.Serials.{serials}
 
 module _ (s : Settings) where
   settings-are : inRange s ≡ true → SettingsInRange s
   settings-are e =
-      let (id, (from-1, (to-15, from-100))) = settings-facts s e in
+      let (id, (from-1, (to-15, (from-100, plate)))) = settings-facts s e in
+      let (reference, (from-A, (to-Z, origin))) = plate-facts (s .plate) plate in
       record {
         NodeID-from-000001h = id .0;
         NodeID-to-FFFEFFh = id .1;
         type-from-1 = from-1;
         type-to-15 = to-15;
         travel-from-100 = from-100;
+        reference-to-FFFFFFh = reference;
+        letter-from-A = from-A;
+        letter-to-Z = to-Z;
+        maker-year-and-week = serials .origins-are-told (s .plate .origin) .0 origin;
       }
 
   settings-so : SettingsInRange s → inRange s ≡ true
@@ -45,7 +52,11 @@ module _ (s : Settings) where
         le-leb 1 (s .kind) (r .type-from-1),
         le-leb (s .kind) 15 (r .type-to-15),
         le-leb 100 (s .travel .0) (r .travel-from-100),
+        le-leb (s .plate .reference) 0xFFFFFF (r .reference-to-FFFFFFh),
+        le-leb 0x41 (s .plate .letter) (r .letter-from-A),
+        le-leb (s .plate .letter) 0x5A (r .letter-to-Z),
       )
+      (serials .origins-are-told (s .plate .origin) .1 (r .maker-year-and-week))
 
   pub settings-exactly-when : SettingsInRange s ↔ (inRange s ≡ true)
   settings-exactly-when = (settings-so, settings-are)
@@ -91,6 +102,7 @@ module _ (n : Node) where
         target-within-the-travel = target-is travel (n .drive .motion) (d .1);
         every-IP-within-the-travel = ips-are travel (n .favourites .slots) (p .ips-within);
         holder-to-FFFFFFh = p .holder-is-an-address;
+        label-of-characters = characters-are (n .label) (p .label-of-characters);
       }
 
   pub is-sound : BoardInRange n → sound n ≡ true
@@ -104,6 +116,7 @@ module _ (n : Node) where
             (target-so travel (n .drive .motion) (r .target-within-the-travel));
         ips-within = ips-so travel (n .favourites .slots) (r .every-IP-within-the-travel);
         holder-is-an-address = r .holder-to-FFFFFFh;
+        label-of-characters = characters-so (n .label) (r .label-of-characters);
       })
 
   pub sound-exactly-when : BoardInRange n ↔ (sound n ≡ true)

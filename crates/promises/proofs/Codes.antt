@@ -15,7 +15,9 @@ use Rattle.frame.specs.Layout.{message, source, dataOf}
 use Rattle.frame.specs.Words.{wordAt}
 use Rattle.travel.specs.Units.{ip}
 use Rattle.board.specs.Favourites.{isNumber, isSet, ipAt}
+use Rattle.board.specs.Label.{isLabel}
 use Rattle.board.specs.Lock.{admits}
+use Rattle.board.specs.Node.{withLabel}
 use Rattle.board.specs.Groups.{Groups}
 use Rattle.board.specs.declared.favourites.Favourites.{Favourites}
 use Rattle.board.specs.declared.favourites.Ip.{Ip}
@@ -41,9 +43,10 @@ use Rattle.messages.specs.Ips.{
 }
 use Rattle.messages.specs.Locking.{lockFunctions, setLockCodes, lockedBy, setLockRow}
 use Rattle.messages.specs.Addresses.{groupCodes, groupData, groupRow, setGroupRow}
+use Rattle.messages.specs.Identity.{labelIn, setLabelCodes, setLabelRow}
 use Rattle.messages.specs.declared.code.Code.{Code}
 use Rattle.messages.specs.declared.outcome.Outcome.{Outcome}
-use Rattle.messages.proofs.Messages.{at-02, at-03, at-15, at-16, at-25, at-41, at-51, at-no-row}
+use Rattle.messages.proofs.Messages.{at-02, at-03, at-15, at-16, at-25, at-41, at-51, at-55, at-no-row}
 use Rattle.messages.proofs.Orders.{sharing, deleting, here, percent-beyond, percent-at}
 use Rattle.node.specs.Frames.{turnOf}
 use Rattle.promises.specs.BoardParts.{ipOf}
@@ -58,12 +61,14 @@ use Rattle.promises.specs.Demand2.Codes.{
   ipRows,
   lockRows,
   groupRows,
+  labelRows,
   Accepted,
   FirstCode,
   Codes,
 }
 use Rattle.promises.specs.Demand2.Turns.{RefusedBy}
 use Rattle.promises.specs.Demand2.Effects.{Arrives}
+use Rattle.promises.proofs.Labels.{a-label-exactly-when}
 use Rattle.promises.proofs.First.{numbered, Alike, at-the-end, in-other-words, as-it-is, fails-exactly-when}
 use Rattle.promises.proofs.Turns.{codeNumber, cameTo, refused-by, first-code, accepted-is-done}
 
@@ -255,6 +260,11 @@ module _ (n : Node) (d : List ℕ) where
   group-alike : (least : ℕ) → Alike (numbered codeNumber (refusals n (groupCodes least d (byteAt d 0)))) (groupRows least d)
   group-alike least = as-it-is λ short. as-it-is λ beyond. at-the-end
 
+  label-alike : Alike (numbered codeNumber (refusals n (setLabelCodes d))) (labelRows d)
+  label-alike =
+      as-it-is λ short.
+      in-other-words (fails-exactly-when (isLabel (labelIn d)) (a-label-exactly-when d)) λ right. at-the-end
+
 -- An accepted 25h names one of the sixteen IPs.
 pub accepted-index : (d : List ℕ) → Accepted (ipRows d) → (1 ≤ byteAt d 0) × (byteAt d 0 ≤ 16)
 accepted-index d none =
@@ -321,6 +331,12 @@ module _ (n : Node) (g : Groups) (b : List ℕ) (a : Arrives n g b) where
       (acts n (Put (byteAt content 0) (byteAt content 1) (byteAt content 2) (byteAt content 3)))
       (at-51 n g (source b) (message b) content m) refl (groupRows 4 content) (group-alike n content 4)
 
+  pub label-by : message b ≡ 0x55 → ByItsCodes (labelRows content) (acts (withLabel n (labelIn content)) Keep)
+  unfolding setLabelRow
+  label-by m =
+      by-its-codes (setLabelCodes content) (acts (withLabel n (labelIn content)) Keep)
+      (at-55 n g (source b) (message b) content m) refl (labelRows content) (label-alike n content)
+
   -- A message that is none of the table's passes every row.
   no-row : (m : ℕ) → ¬ IsOneOf m messages → tables.Passed (messageRows n g (source b) m content)
   no-row m other = each-differs m messages other
@@ -339,4 +355,5 @@ module _ (n : Node) (g : Groups) (b : List ℕ) (a : Arrives n g b) where
         a-SET_NETWORK_LOCK-is-refused = λ m. lock-by m .refused;
         a-GET_GROUP_ADDR-is-refused = λ m. group-by m .refused;
         a-SET_GROUP_ADDR-is-refused = λ m. set-group-by m .refused;
+        a-SET_NODE_LABEL-is-refused = λ m. label-by m .refused;
       }

@@ -5,6 +5,7 @@ use Rattle.motors.specs.Motor.{isReading}
 use Rattle.promises.specs.Contracts.{Contracts, LentSliceContracts}
 use Rattle.promises.specs.Contracts.{
   Refusal.{RefusalContracts},
+  Serial.{SerialContracts},
   Frame.{FrameContracts},
   Line.{LineContracts},
   Travel.{TravelContracts},
@@ -18,6 +19,14 @@ use Rattle.promises.proofs.SliceContracts.{slice-contracts}
 
 refusal-contracts : RefusalContracts
 refusal-contracts = record { refusal-number-is = λ κs a. (refl, (tt, λ x s p. p)) }
+
+serial-contracts : SerialContracts
+serial-contracts =
+    record {
+      serial-of-is = λ κs a. (refl, (tt, λ x s p. p));
+      is-origin-is = λ κs a. (refl, (tt, λ x s p. p));
+      an-origin-is-six-bytes = refl;
+    }
 
 frame-contracts : FrameContracts
 frame-contracts =
@@ -105,6 +114,7 @@ pub contracts : Contracts
 contracts =
     record {
       refusal = refusal-contracts;
+      serial = serial-contracts;
       frame = frame-contracts;
       line = line-contracts;
       travel = travel-contracts;

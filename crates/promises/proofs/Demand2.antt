@@ -21,6 +21,7 @@ use Rattle.promises.proofs.BoardInRange.{settings-exactly-when, sound-e
 use Rattle.promises.proofs.Status.{status}
 use Rattle.promises.proofs.Meant.{passed-over}
 use Rattle.promises.proofs.Reply.{untouched}
+use Rattle.promises.proofs.Serials.{serials}
 use Rattle.promises.proofs.SinceSetUp.{turned-in-range, sends-a-reply, replies-properly, since-set-up}
 use Rattle.promises.proofs.Favourites.{sixteen-ips}
 use Rattle.promises.proofs.Fitting.{fitting}
@@ -77,6 +78,7 @@ kept =
     record {
       frames = frames;
       line-reader = line-reader;
+      serials = serials;
       board = board;
       positions = positions;
       register = register;

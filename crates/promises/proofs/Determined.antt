@@ -4,6 +4,7 @@ use native.Mathlib.Omega.{arith}
 use mathlib.Core.Path.{_∙_, sym}
 use Rattle.refusal.specs.declared.Refusal.the-variants.{TooShort}
 use Rattle.refusal.proofs.Determined as Refusal
+use Rattle.serial.proofs.Determined as Serial
 use Rattle.frame.proofs.Determined as Frame
 use Rattle.line.proofs.Determined as Line
 use Rattle.travel.proofs.Determined as Travel
@@ -20,6 +21,7 @@ pub determined : Determined
 determined =
     record {
       refusal = Refusal.determined;
+      serial = Serial.determined;
       frame = Frame.determined;
       line = Line.determined;
       travel = Travel.determined;

@@ -6,8 +6,9 @@ use mathlib.Core.Path.{_≡_, refl, _∙_, sym, ap, subst}
 use mathlib.Core.Logic.{_≢_, inl, inr}
 use mathlib.Core.Bool.{true, false, false≢true}
 use mathlib.Core.List.{List}
-use borrow.Author.Tests.{le-leb, le-ltb, lt-ltb, eq-eqb, ne-eqb}
-use lib.ListN.{length, length-set}
+use borrow.Author.Tests.{le-leb, leb-true, leb-false, le-ltb, lt-ltb, eq-eqb, ne-eqb}
+use lib.Dec.{leb}
+use lib.ListN.{length, length-set, take}
 use lib.Seq.{getD-set-same, getD-set-other}
 use Rattle.meaning.specs.Cases.{by-test}
 use Rattle.frame.specs.Layout.{message, source, dataOf}
@@ -19,7 +20,7 @@ use Rattle.board.specs.Drive.{halted, haltedFrom, movedTo}
 use Rattle.board.specs.Favourites.{isNumber, withIp, sharedOut, pulseOf}
 use Rattle.board.specs.Groups.{Groups}
 use Rattle.board.specs.Lock.{locked}
-use Rattle.board.specs.Node.{withDrive, withFavourites, withLock}
+use Rattle.board.specs.Node.{withDrive, withFavourites, withLock, withLabel}
 use Rattle.board.specs.declared.drive.Drive.{Drive}
 use Rattle.board.specs.declared.drive.Motion.{Motion}
 use Rattle.board.specs.declared.drive.Motion.the-variants.{Still, Running}
@@ -36,10 +37,11 @@ use Rattle.messages.specs.Ips.{orderIn, ordered}
 use Rattle.messages.specs.Locking.{lockedBy}
 use Rattle.messages.specs.declared.favourites.Order.{Order}
 use Rattle.messages.specs.declared.favourites.Order.the-variants.{Share}
+use Rattle.messages.proofs.FirstBytes.{front}
 use Rattle.messages.proofs.Orders.{sharing, deleting, here, percent-at}
 use Rattle.node.specs.Frames.{turnOf}
 use Rattle.promises.specs.BoardParts.{slot, drive}
-use Rattle.promises.specs.Demand2.Codes.{Accepted, IsAMove, SetsAnIp, stopRows, moveRows, setIpRows, lockRows}
+use Rattle.promises.specs.Demand2.Codes.{Accepted, IsAMove, SetsAnIp, stopRows, moveRows, setIpRows, lockRows, labelRows}
 use Rattle.promises.specs.Demand2.Turns.{CarriedOut}
 use Rattle.promises.specs.Demand2.Effects.{Arrives, AimedAt, down, up, to-IP, to-percent, OneIp, SharedOut, Effects}
 use Rattle.promises.proofs.Favourites.{sixteen-ips}
@@ -56,6 +58,7 @@ use Rattle.promises.proofs.Codes.{
   set-ip-by,
   lock-by,
   set-group-by,
+  label-by,
 }
 
 -- ---- 03h
@@ -120,7 +123,13 @@ one-ip : (n : Node) → length (n .favourites .slots) ≡ 16 → (i : ℕ) (x : 
 one-ip n sixteen i x l u =
     rw (le-leb 1 i l, le-leb i 16 u)
     (record {
-      IPs-alone = record { same-settings = refl; same-motor = refl; same-lock = refl; sixteen-again = length-set slots (i - 1) (slot x) ∙ sixteen };
+      IPs-alone = record {
+        same-settings = refl;
+        same-motor = refl;
+        same-lock = refl;
+        same-label = refl;
+        sixteen-again = length-set slots (i - 1) (slot x) ∙ sixteen;
+      };
       the-IP-named = ap (λ (s : Slot). s .ip) (getD-set-same slots (i - 1) (slot x) (slot Unset) (omega (arith, sixteen, l, u)));
       every-other-IP = λ other first last differs.
           ap (λ (s : Slot). s .ip)
@@ -136,7 +145,7 @@ shared-out n count few =
     let travel = n .settings .travel in
     let sixteen = sixteen-ips .sharing-out-leaves-sixteen count travel in
     record {
-      IPs-alone = record { same-settings = refl; same-motor = refl; same-lock = refl; sixteen-again = sixteen };
+      IPs-alone = record { same-settings = refl; same-motor = refl; same-lock = refl; same-label = refl; sixteen-again = sixteen };
       to-the-count = λ i l u. sixteen-ips .IPs-to-n-share-the-travel count travel i l u (omega (arith, u, few));
       the-rest = sixteen-ips .the-rest-are-unset count travel;
     }
@@ -252,6 +261,15 @@ module _ (n : Node) (g : Groups) (b : List ℕ) (a : Arrives n g b) where
         let few = names-a-percent (byteAt content 0) index (wordAt content 2) (accepted-order n content none) f in
         ap (ordered n) (percent-at (byteAt content 0) (ip index) (wordAt content 2) i f few)
 
+  -- 55h
+  labelled-so : message b ≡ 0x55 → Accepted (labelRows content) → Carried (withLabel n (take 16 content))
+  labelled-so m none =
+      let short = behind (λ e. omega arith) none .0 in
+      let enough = by-test (leb 16 (length content)) (leb-true 16 (length content)) (λ e. absurd (short (leb-false 16 (length content) e))) in
+      carried-out n g b a (withLabel n (take 16 content)) Keep
+      (label-by n g b a m .accepted none
+      ∙ ap (λ (l : List ℕ). acts (withLabel n l) Keep) (front 16 content enough))
+
   pub effects : Effects n b (turnOf n g b)
   effects =
       record {
@@ -270,4 +288,5 @@ module _ (n : Node) (g : Groups) (b : List ℕ) (a : Arrives n g b) where
         a-lock-is-saved = locked-so 3;
         a-lock-is-saved-no-more = locked-so 4;
         a-group-is-stored = λ m none. carried-out n g b a n _ (set-group-by n g b a m .accepted none);
+        a-label-is-stored = labelled-so;
       }

@@ -8,6 +8,7 @@ use mathlib.Core.Bool.{true, false, false≢true}
 use Rattle.meaning.specs.Membership.{is-in}
 use Rattle.frame.specs.Reading.{readingOf}
 use Rattle.board.specs.Favourites.{ipsWithin}
+use Rattle.meaning.specs.Every.{every}
 use Rattle.board.specs.Node.{sound}
 use Rattle.board.specs.declared.favourites.Ip.the-variants.{Unset}
 use Rattle.promises.specs.Numbers.{readNumber}
@@ -23,7 +24,7 @@ use Rattle.promises.proofs.Frames.{rules-exactly-when}
 use Rattle.promises.proofs.Effects.{effects}
 
 board-is-sound : sound newBoard ≡ true
-unfolding ipsWithin
+unfolding ipsWithin every
 board-is-sound = refl
 
 read-as-a-frame : readNumber (readingOf moveDown) ≡ 0

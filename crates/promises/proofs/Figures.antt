@@ -4,6 +4,7 @@ use mathlib.Core.Path.{_≡_, refl}
 use mathlib.Core.Bool.{true}
 use mathlib.Core.Option.{some}
 use lib.ListN.{replicate}
+use Rattle.meaning.specs.Every.{every}
 use Rattle.frame.specs.{Reading.{readingOf}, Writing.{writingOf}}
 use Rattle.travel.specs.{Position.{percentOfPulse, pulseOfPercent}, Share.{shareOf}}
 use Rattle.board.specs.{Favourites.{firstAt, ipsWithin}, Groups.{inTable}}
@@ -61,7 +62,7 @@ unfolding writingOf
 p3 = refl
 
 p4 : P4
-unfolding readingOf writingOf percentOfPulse firstAt ipsWithin replyTo outcomeOf positionRow inTable meant turnOf
+unfolding readingOf writingOf percentOfPulse firstAt ipsWithin every replyTo outcomeOf positionRow inTable meant turnOf
 p4 = refl
 
 p5 : P5

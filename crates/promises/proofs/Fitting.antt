@@ -1,7 +1,5 @@
 -- Numbers that fit their types go on fitting them: by the board's own laws.
 -- Assumes nothing.
-use Prim.Native.Nat.{_≤_}
-use native.Mathlib.Omega.{arith}
 use mathlib.Core.Bool.{not}
 use Rattle.meaning.specs.Choice.{either}
 use Rattle.board.specs.Events.{setUp, afterPulse, afterBlocked, afterCleared, afterPowerUp}
@@ -19,14 +17,14 @@ use Rattle.board.proofs.Fitting.{
 }
 use Rattle.node.specs.Frames.{turnOf}
 use Rattle.node.proofs.Histories.{turn-fits}
-use Rattle.promises.specs.Typed.{Typed}
+use Rattle.promises.specs.Typed.{SettingsTyped, Typed}
 use Rattle.promises.specs.Demand2.Fitting.{Fitting}
-use Rattle.promises.proofs.Typed.{for-its-laws, by-its-laws}
+use Rattle.promises.proofs.Typed.{settings-for-its-laws, for-its-laws, by-its-laws}
 
-set-up-fits : (s : Settings) → s .travel .0 ≤ 65535 → Typed (setUp s .node)
+set-up-fits : (s : Settings) → SettingsTyped s → Typed (setUp s .node)
 unfolding setUp
 set-up-fits s h =
-    let t = by-its-laws _ (fresh-is-typed s (omega arith)) in
+    let t = by-its-laws _ (fresh-is-typed s (settings-for-its-laws s h)) in
     either (λ (a : After). Typed (a .node)) (not (inRange s)) (λ e. t) (λ e. t)
 
 pub fitting : Fitting

@@ -1,4 +1,6 @@
 pub mod Frames
+pub mod Serials
+pub mod Labels
 pub mod BoardInRange
 pub mod Typed
 pub mod Reply
@@ -32,6 +34,7 @@ pub mod Demand1
 pub mod Demand2
 pub mod Demand3
 pub mod Figures
+pub mod RequestFigures
 pub mod Determined
 pub mod BoardContracts
 pub mod SliceContracts

@@ -1,6 +1,6 @@
 -- A board that was set up is in range, and its numbers fit their types, whatever has reached it since; so all that it sends is a reply.
 -- Assumes nothing.
-use Prim.Native.Nat.{ℕ, _≤_}
+use Prim.Native.Nat.{ℕ}
 use mathlib.Core.Path.{sym, ap, subst}
 use mathlib.Core.List.{List}
 use Rattle.board.specs.declared.events.After.{After}
@@ -12,7 +12,7 @@ use Rattle.node.proofs.Laws.{every-state-passes-row-33-again}
 use Rattle.node.proofs.Sent.{SendsAReply, every-message-sent-is-a-reply}
 use Rattle.promises.specs.BoardInRange.{SettingsInRange, BoardInRange}
 use Rattle.promises.specs.Groups.{Groups}
-use Rattle.promises.specs.Typed.{Typed, TypedTable}
+use Rattle.promises.specs.Typed.{SettingsTyped, Typed, TypedTable}
 use Rattle.promises.specs.Reply.{Proper}
 use Rattle.promises.specs.Demand2.Board.{Became, set-up, having-heard, at-a-pulse, blocked, cleared, powered-up, SinceSetUp}
 use Rattle.promises.proofs.BoardInRange.{in-range, is-sound}
@@ -32,7 +32,7 @@ module _ (n : Node) (g : Groups) (b : List ℕ) (s : BoardInRange n) where
   replies-properly t u =
       proper-by-its-bytes n b (turnOf n g b) (laws.every-reply-is-a-frame-to-the-asker n g b (is-sound n s) (for-its-laws n t) u)
 
-module _ (s : Settings) (r : SettingsInRange s) (h : s .travel .0 ≤ 65535) where
+module _ (s : Settings) (r : SettingsInRange s) (h : SettingsTyped s) where
   abbrev Kept : Node → Groups → Type 0
   Kept n g = BoardInRange n × (Typed n × TypedTable g)
 

@@ -10,6 +10,7 @@ use prog.Routine.{Routine}
 use prog.Wp.{Heap}
 pub mod Says
 pub mod Refusal
+pub mod Serial
 pub mod Frame
 pub mod Line
 pub mod Travel
@@ -25,6 +26,7 @@ pub mod Register
 
 pub record Contracts : Type 0 where
   pub refusal : Refusal.RefusalContracts
+  pub serial : Serial.SerialContracts
   pub frame : Frame.FrameContracts
   pub line : Line.LineContracts
   pub travel : Travel.TravelContracts

@@ -4,6 +4,7 @@
 -- AND NodeID and touches no
 -- other motor's record.
 -- Assumes nothing.
+use Rattle.promises.specs.Serials.{Serials}
 pub mod Frames
 pub mod LineReader
 pub mod Events
@@ -23,6 +24,7 @@ pub mod EndToEnd
 pub record Demand2 : Type 1 where
   pub frames : Frames.Frames
   pub line-reader : LineReader.LineReader
+  pub serials : Serials
   pub board : Board.Board
   pub positions : Positions.Positions
   pub register : Register.Register

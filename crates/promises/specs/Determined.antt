@@ -13,6 +13,7 @@ use Rattle.meaning.specs.Determined.{Once}
 use Rattle.refusal.specs.Number.{numberOf}
 use Rattle.refusal.proofs.Refusal.number.Kinds as number-kinds
 use Rattle.refusal.proofs.Determined as Refusal
+use Rattle.serial.proofs.Determined as Serial
 use Rattle.frame.proofs.Determined as Frame
 use Rattle.line.proofs.Determined as Line
 use Rattle.travel.proofs.Determined as Travel
@@ -26,6 +27,7 @@ use Rattle.register.proofs.Determined as Register
 -- Every crate but the lent slice of motors.
 pub record Determined : Type 0 where
   pub refusal : Refusal.Determined
+  pub serial : Serial.Determined
   pub frame : Frame.Determined
   pub line : Line.Determined
   pub travel : Travel.Determined

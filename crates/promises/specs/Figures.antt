@@ -30,7 +30,18 @@ use Rattle.form.specs.{
 }
 use Rattle.promises.specs.Wire.{inverted}
 use Rattle.promises.specs.Numbers.{readNumber}
-use Rattle.promises.specs.BoardParts.{address, pulse, percent, ip, drive, lock, noIps, emptyTable}
+use Rattle.promises.specs.BoardParts.{
+  address,
+  pulse,
+  percent,
+  ip,
+  plainPlate,
+  drive,
+  lock,
+  noIps,
+  spaces,
+  emptyTable,
+}
 use Rattle.promises.specs.RegisterInRange.{noMotor, noMotors}
 
 -- A header without the ACK bit.
@@ -78,10 +89,11 @@ P3 = sent 11 (header 0x0C 0 2 0xFFFF00 0x050403) [] ≡ getPosition
 abbrev pub awning : Node
 awning =
     record {
-      settings = record { id = address 0x050403; kind = 2; travel = pulse 1000 };
+      settings = record { id = address 0x050403; kind = 2; travel = pulse 1000; plate = plainPlate };
       drive = drive (pulse 333) Still 0xFF 0 0xFF false;
       favourites = noIps;
       lock = lock false (address 0x000000) 0 false;
+      label = spaces;
     }
 
 -- Its reply to P3: 16 bytes, then zeros.

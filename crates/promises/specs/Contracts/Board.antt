@@ -6,12 +6,15 @@ use mathlib.Core.List.{[], _∷_}
 use lib.Dec.{leb}
 use lib.ListN.{replicate}
 use Rattle.meaning.specs.Choice.{if_then_else_}
+use Rattle.serial.specs.Serial.{isOrigin}
 use Rattle.board.specs.{
+  Label.{isLabel},
   Node.{sound},
   Events.{setUp, afterPulse, afterBlocked, afterCleared, afterPowerUp},
   Groups.{applied, inTable},
 }
 use Rattle.board.proofs as board
+use Rattle.board.proofs.plate.Plate as Plate
 use Rattle.board.proofs.settings.Settings as Settings
 use Rattle.board.proofs.whole.Node as Node
 use Rattle.promises.specs.BoardParts.{freshNode}
@@ -21,12 +24,21 @@ use Rattle.promises.specs.Contracts.Favourites.{FavouritesContracts}
 use Rattle.promises.specs.Contracts.Lock.{LockContracts}
 
 pub record BoardContracts : Type 0 where
-  -- Row 32: a NodeID, type 1 to 15, travel from 100.
+  -- Row 32: a plate with a reference to FFFFFFh, a letter A to Z, and maker, year and week.
+  pub plate-in-range-is :
+      Says Plate.in_range.Kinds.ps Plate.in_range.Kinds.r Plate.in_range.Reads.Pre Plate.in_range.Reads.Post
+      (λ κs (plate, _).
+      leb (plate .reference) 0xFFFFFF
+      && (leb 0x41 (plate .letter) && (leb (plate .letter) 0x5A && isOrigin (plate .origin))))
+  -- Row 32: a NodeID, type 1 to 15, travel from 100, and a plate.
   pub in-range-is :
       Says Settings.in_range.Kinds.ps Settings.in_range.Kinds.r Settings.in_range.Reads.Pre Settings.in_range.Reads.Post
       (λ κs (settings, _).
       (leb 0x000001 (settings .id .0) && leb (settings .id .0) 0xFFFEFF)
-      && (leb 1 (settings .kind) && (leb (settings .kind) 15 && leb 100 (settings .travel .0))))
+      && (leb 1 (settings .kind) && (leb (settings .kind) 15 && (leb 100 (settings .travel .0)
+      && (leb (settings .plate .reference) 0xFFFFFF
+      && (leb 0x41 (settings .plate .letter)
+      && (leb (settings .plate .letter) 0x5A && isOrigin (settings .plate .origin))))))))
   pub drive : DriveContracts
   pub favourites : FavouritesContracts
   pub lock : LockContracts
@@ -47,16 +59,51 @@ pub record BoardContracts : Type 0 where
   pub with-drive-is :
       Says Node.with_drive.Kinds.ps Node.with_drive.Kinds.r Node.with_drive.Reads.Pre Node.with_drive.Reads.Post
       (λ κs (node, (drive, _)).
-      record { settings = node .settings; drive = drive; favourites = node .favourites; lock = node .lock })
+      record {
+        settings = node .settings;
+        drive = drive;
+        favourites = node .favourites;
+        lock = node .lock;
+        label = node .label;
+      })
   pub with-favourites-is :
       Says Node.with_favourites.Kinds.ps Node.with_favourites.Kinds.r
       Node.with_favourites.Reads.Pre Node.with_favourites.Reads.Post
       (λ κs (node, (favourites, _)).
-      record { settings = node .settings; drive = node .drive; favourites = favourites; lock = node .lock })
+      record {
+        settings = node .settings;
+        drive = node .drive;
+        favourites = favourites;
+        lock = node .lock;
+        label = node .label;
+      })
   pub with-lock-is :
       Says Node.with_lock.Kinds.ps Node.with_lock.Kinds.r Node.with_lock.Reads.Pre Node.with_lock.Reads.Post
       (λ κs (node, (lock, _)).
-      record { settings = node .settings; drive = node .drive; favourites = node .favourites; lock = lock })
+      record {
+        settings = node .settings;
+        drive = node .drive;
+        favourites = node .favourites;
+        lock = lock;
+        label = node .label;
+      })
+  pub with-label-is :
+      Says Node.with_label.Kinds.ps Node.with_label.Kinds.r Node.with_label.Reads.Pre Node.with_label.Reads.Post
+      (λ κs (node, (label, _)).
+      record {
+        settings = node .settings;
+        drive = node .drive;
+        favourites = node .favourites;
+        lock = node .lock;
+        label = label;
+      })
+  -- A label: sixteen spaces, and whether each character is 20h to 7Eh.
+  pub blank-label-is :
+      Says board.blank_label.Kinds.ps board.blank_label.Kinds.r board.blank_label.Reads.Pre board.blank_label.Reads.Post
+      (λ κs _. replicate 16 0x20)
+  pub is-label-is :
+      Says board.is_label.Kinds.ps board.is_label.Kinds.r board.is_label.Reads.Pre board.is_label.Reads.Post
+      (λ κs (label, _). isLabel label)
   -- Set-up, and the events from the motor and the supply.
   pub set-up-is :
       Says board.set_up.Kinds.ps board.set_up.Kinds.r board.set_up.Reads.Pre board.set_up.Reads.Post

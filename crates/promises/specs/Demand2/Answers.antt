@@ -4,7 +4,7 @@ use Prim.Native.Nat.{ℕ, _/_, _%_}
 use mathlib.Core.Path.{_≡_}
 use mathlib.Core.Bool.{Bool, true, false}
 use mathlib.Core.List.{List, [], _∷_}
-use lib.ListN.{getD}
+use lib.ListN.{getD, drop}
 use Rattle.travel.specs.{Position.{percentOfPulse}, declared.Pulse.{Pulse}}
 use Rattle.board.specs.{
   Favourites.{reportedIp},
@@ -15,6 +15,7 @@ use Rattle.node.specs.declared.turn.Turn.{Turn}
 use Rattle.promises.specs.Groups.{Groups}
 use Rattle.promises.specs.Wire.{message, dataOf, byteAt}
 use Rattle.promises.specs.BoardParts.{ipOf}
+use Rattle.promises.specs.Serials.{SerialRules}
 use Rattle.promises.specs.Demand2.Turns.{Posted}
 use Rattle.promises.specs.Demand2.Codes.{Accepted, ipRows, groupRows}
 
@@ -57,3 +58,17 @@ pub record Answers (n : Node) (g : Groups) (b : List ℕ) (t : Turn) : Type 1 wh
       message b ≡ 0x41 → Accepted (groupRows 1 (dataOf b)) → (low middle high : ℕ)
       → getD g (byteAt (dataOf b) 0) [] ≡ low ∷ middle ∷ high ∷ []
       → Posted n b t 0x61 (byteAt (dataOf b) 0 ∷ low ∷ middle ∷ high ∷ [])
+  -- 45h: the sixteen characters
+  pub the-label-is-told : message b ≡ 0x45 → Posted n b t 0x65 (n .label)
+  -- 74h: reference in three bytes, letter, number, reserved
+  pub the-version-is-told :
+      message b ≡ 0x74
+      → Posted n b t 0x75
+      (n .settings .plate .reference % 256 ∷ n .settings .plate .reference / 256 % 256
+      ∷ n .settings .plate .reference / 65536 % 256
+      ∷ n .settings .plate .letter ∷ n .settings .plate .number ∷ 0xFF ∷ [])
+  -- 4Ch: the right serial of the NodeID with the plate's maker, year and week
+  pub the-serial-number-is-told :
+      message b ≡ 0x4C
+      → (serial : List ℕ) × (SerialRules (n .settings .id .0) serial × ((drop 6 serial ≡ n .settings .plate .origin)
+      × Posted n b t 0x6C serial))

@@ -27,7 +27,7 @@ use Rattle.meaning.specs.Membership.{IsOneOf}
 use Rattle.promises.specs.Wire.{FrameRules, message}
 use Rattle.promises.specs.BoardInRange.{SettingsInRange, BoardInRange}
 use Rattle.promises.specs.Groups.{Groups}
-use Rattle.promises.specs.Typed.{Typed, TypedTable}
+use Rattle.promises.specs.Typed.{SettingsTyped, Typed, TypedTable}
 use Rattle.promises.specs.Meant.{replies, Meant}
 use Rattle.promises.specs.Reply.{sent, ignored, Proper, Untouched}
 use Rattle.promises.specs.Rows.{_when_, FirstOf}
@@ -90,7 +90,7 @@ pub record Board : Type 1 where
   pub every-reply-is-a-frame-to-the-asker :
       (n : Node) (g : Groups) (b : List ℕ) → BoardInRange n → Typed n → TypedTable g → Proper n b (turnOf n g b)
   -- the same of every board that was set up, whatever bundles and events have reached it since
-  pub since-set-up : (s : Settings) → SettingsInRange s → s .travel .0 ≤ 65535 → (n : Node) (g : Groups)
+  pub since-set-up : (s : Settings) → SettingsInRange s → SettingsTyped s → (n : Node) (g : Groups)
       → Became s n g → SinceSetUp n g
   pub group-table : GroupTable
   pub events : Events

@@ -1,4 +1,4 @@
--- Demand 2, the board: which code refuses a message, and when (document 01, under the message table). Each table has
+-- Demand 2, the board: which code refuses a message, and when (document 01, under the message table, and 2026-01). Each table has
 -- the codes of one message in order of checking.
 -- Assumes nothing.
 use Prim.Native.Nat.{ℕ, _+_, _≤_, _<_}
@@ -12,12 +12,13 @@ use Rattle.node.specs.declared.turn.Turn.{Turn}
 use Rattle.meaning.specs.Membership.{IsOneOf}
 use Rattle.promises.specs.Wire.{message, dataOf, byteAt, wordAt}
 use Rattle.promises.specs.BoardParts.{ipOf}
+use Rattle.promises.specs.BoardInRange.{IsCharacter}
 use Rattle.promises.specs.Rows.{Row, _when_, FirstOf}
 use Rattle.promises.specs.Demand2.Turns.{RefusedBy}
 
 -- The messages of the table; any other is unknown.
 abbrev pub messages : List ℕ
-messages = 0x02 ∷ 0x03 ∷ 0x0C ∷ 0x0E ∷ 0x15 ∷ 0x25 ∷ 0x16 ∷ 0x26 ∷ 0x40 ∷ 0x41 ∷ 0x51 ∷ []
+messages = 0x02 ∷ 0x03 ∷ 0x0C ∷ 0x0E ∷ 0x15 ∷ 0x25 ∷ 0x16 ∷ 0x26 ∷ 0x40 ∷ 0x41 ∷ 0x51 ∷ 0x45 ∷ 0x55 ∷ 0x74 ∷ 0x4C ∷ []
 
 -- 02h STOP.
 abbrev pub stopRows : Node → List ℕ → List Row
@@ -72,6 +73,13 @@ lockRows n d =
 abbrev pub groupRows : (least : ℕ) → List ℕ → List Row
 groupRows least d = 0x11 when (length d < least) ∷ 0x01 when (15 < byteAt d 0) ∷ []
 
+-- 55h: sixteen characters; bytes behind them may be anything.
+abbrev pub labelRows : List ℕ → List Row
+labelRows d =
+    0x11 when (length d < 16)
+    ∷ 0x01 when (¬ ((place : ℕ) → place < 16 → IsCharacter (byteAt d place)))
+    ∷ []
+
 -- The first code that applies refuses the message; 0 where none does.
 abbrev pub FirstCode : Node → List ℕ → Turn → List Row → Type 1
 FirstCode n b t rows = (code : ℕ) × (FirstOf rows code × (code ≢ 0 → RefusedBy n b t code))
@@ -90,3 +98,4 @@ pub record Codes (n : Node) (b : List ℕ) (t : Turn) : Type 1 where
   pub a-SET_NETWORK_LOCK-is-refused : message b ≡ 0x16 → FirstCode n b t (lockRows n (dataOf b))
   pub a-GET_GROUP_ADDR-is-refused : message b ≡ 0x41 → FirstCode n b t (groupRows 1 (dataOf b))
   pub a-SET_GROUP_ADDR-is-refused : message b ≡ 0x51 → FirstCode n b t (groupRows 4 (dataOf b))
+  pub a-SET_NODE_LABEL-is-refused : message b ≡ 0x55 → FirstCode n b t (labelRows (dataOf b))

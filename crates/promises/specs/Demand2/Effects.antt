@@ -5,7 +5,7 @@ use mathlib.Core.Path.{_≡_}
 use mathlib.Core.Logic.{_≢_}
 use mathlib.Core.Bool.{true, false}
 use mathlib.Core.List.{List}
-use lib.ListN.{length}
+use lib.ListN.{length, take}
 use Rattle.travel.specs.{Position.{pulseOfPercent}, declared.Pulse.{Pulse}}
 use Rattle.board.specs.{
   declared.{
@@ -21,9 +21,9 @@ use Rattle.promises.specs.BoardInRange.{BoardInRange}
 use Rattle.promises.specs.Groups.{Groups}
 use Rattle.promises.specs.Meant.{Meant}
 use Rattle.promises.specs.Wire.{FrameRules, message, source, dataOf, byteAt, wordAt}
-use Rattle.promises.specs.BoardParts.{pulse, percent, address, drive, lock, ipOf, withDrive, withLock}
+use Rattle.promises.specs.BoardParts.{pulse, percent, address, drive, lock, ipOf, withDrive, withLock, withLabel}
 use Rattle.promises.specs.Demand2.Turns.{CarriedOut}
-use Rattle.promises.specs.Demand2.Codes.{Accepted, stopRows, moveRows, setIpRows, lockRows, groupRows}
+use Rattle.promises.specs.Demand2.Codes.{Accepted, stopRows, moveRows, setIpRows, lockRows, groupRows, labelRows}
 
 -- A frame that a board in range is meant to carry out.
 pub record Arrives (n : Node) (g : Groups) (b : List ℕ) : Type 0 where
@@ -40,11 +40,12 @@ pub data AimedAt (n : Node) (d : List ℕ) : Pulse → Type 0 where
   to-IP : {p : Pulse} → byteAt d 0 ≡ 2 → ipOf (n .favourites) (wordAt d 1 + 1) ≡ At p → AimedAt n d p
   to-percent : byteAt d 0 ≡ 4 → AimedAt n d (pulseOfPercent (percent (wordAt d 1)) (n .settings .travel))
 
--- Only the IPs of a board are changed: settings, motor and lock are as before, and there are sixteen again.
+-- Only the IPs of a board are changed: settings, motor, lock and label are as before, and there are sixteen again.
 pub record IpsAlone (n after : Node) : Type 0 where
   pub same-settings : after .settings ≡ n .settings
   pub same-motor : after .drive ≡ n .drive
   pub same-lock : after .lock ≡ n .lock
+  pub same-label : after .label ≡ n .label
   pub sixteen-again : length (after .favourites .slots) ≡ 16
 
 -- One IP is set or unset.
@@ -124,3 +125,6 @@ pub record Effects (n : Node) (b : List ℕ) (t : Turn) : Type 1 where
       message b ≡ 0x51 → Accepted (groupRows 4 (dataOf b))
       → CarriedOut n b t n
       (Put (byteAt (dataOf b) 0) (byteAt (dataOf b) 1) (byteAt (dataOf b) 2) (byteAt (dataOf b) 3))
+  -- 55h
+  pub a-label-is-stored :
+      message b ≡ 0x55 → Accepted (labelRows (dataOf b)) → CarriedOut n b t (withLabel n (take 16 (dataOf b))) Keep

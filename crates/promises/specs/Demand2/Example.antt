@@ -10,14 +10,14 @@ use Rattle.board.specs.declared.{
 }
 use Rattle.node.specs.Frames.{turnOf}
 use Rattle.promises.specs.Wire.{dataOf}
-use Rattle.promises.specs.BoardParts.{address, pulse, drive, emptyTable, withDrive, freshNode}
+use Rattle.promises.specs.BoardParts.{address, pulse, plainPlate, drive, emptyTable, withDrive, freshNode}
 use Rattle.promises.specs.Demand2.Turns.{CarriedOut}
 use Rattle.promises.specs.Demand2.Codes.{Accepted, moveRows}
 use Rattle.promises.specs.Demand2.Effects.{Arrives, AimedAt}
 
 -- A board just set up: 05:04:03, type 2, travel 1,000.
 abbrev pub newBoard : Node
-newBoard = freshNode (record { id = address 0x050403; kind = 2; travel = pulse 1000 })
+newBoard = freshNode (record { id = address 0x050403; kind = 2; travel = pulse 1000; plate = plainPlate })
 
 -- MOVETO down from FF:FF:00 to it, with the ACK bit: raw 03 8F 02 00 FF FF 03 04 05 00 00 00 00.
 abbrev pub moveDown : List ℕ

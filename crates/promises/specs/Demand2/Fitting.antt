@@ -1,6 +1,6 @@
 -- Demand 2, the board: numbers that fit their types go on fitting them, whatever reaches the board.
 -- Assumes nothing.
-use Prim.Native.Nat.{ℕ, _≤_}
+use Prim.Native.Nat.{ℕ}
 use mathlib.Core.List.{List}
 use Rattle.travel.specs.declared.Pulse.{Pulse}
 use Rattle.board.specs.{
@@ -10,10 +10,10 @@ use Rattle.board.specs.{
 }
 use Rattle.node.specs.Frames.{turnOf}
 use Rattle.promises.specs.Groups.{Groups}
-use Rattle.promises.specs.Typed.{Typed, TypedTable}
+use Rattle.promises.specs.Typed.{SettingsTyped, Typed, TypedTable}
 
 pub record Fitting : Type 0 where
-  pub a-fresh-node-fits : (s : Settings) → s .travel .0 ≤ 65535 → Typed (setUp s .node)
+  pub a-fresh-node-fits : (s : Settings) → SettingsTyped s → Typed (setUp s .node)
   pub a-fresh-table-fits : TypedTable noGroups
   pub a-turn-leaves-a-node-that-fits : (n : Node) (g : Groups) (b : List ℕ) → Typed n → Typed (turnOf n g b .node)
   pub a-turn-leaves-a-table-that-fits : (n : Node) (g : Groups) (b : List ℕ) → Typed n → TypedTable g
