@@ -29,6 +29,7 @@
 #include "second/frame.c"
 #include "second/reader.c"
 #include "second/travel.c"
+#include "second/plate.c"
 #include "second/board.c"
 #include "second/messages.c"
 #include "second/register.c"

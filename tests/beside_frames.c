@@ -16,7 +16,7 @@ enum {
     BROKEN_BOARD = 33 /* a row that the second program does not have, since its state is its own */
 };
 
-/* What a board is set up with. */
+/* What a board is set up with, its plate the plain one. */
 struct settings {
     uint32_t node_id;
     uint8_t type;
@@ -89,21 +89,23 @@ static uint64_t over_bundles(enum side side)
  * ------------------------------------------------------------------------ */
 
 /*
- * Row 33, which document 01 asks for at every call: the settings' ranges;
- * within the travel the position, the target while running, and every favourite
- * that is set; the lock's holder an address.  All favourites are looked at, so
- * that the compiler takes several at once: quicker than to stop at the first.
+ * Row 33, which document 01 asks for at every call: the settings' ranges, those
+ * of the plate among them; within the travel the position, the target while
+ * running, and every favourite that is set; the lock's holder an address; the
+ * label's bytes.  All favourites are looked at, so that the compiler takes
+ * several at once: quicker than to stop at the first.
  */
 static bool is_sound(const struct board *board)
 {
-    if (!is_node_id(board->node_id) || board->type < 1 || board->type > NODE_TYPE_LAST || board->travel < TRAVEL_LEAST)
+    if (!is_node_id(board->node_id) || board->type < 1 || board->type > NODE_TYPE_LAST || board->travel < TRAVEL_LEAST
+        || !is_plate(&board->plate))
         return false;
     if (board->position > board->travel || (board->running && board->target > board->travel))
         return false;
     bool beyond = false;
     for (size_t at = 0; at < FAVOURITES; at++)
         beyond |= board->favourites[at].set & (board->favourites[at].pulse > board->travel);
-    return !beyond && board->holder <= ADDRESS_LAST;
+    return !beyond && board->holder <= ADDRESS_LAST && is_label(board->label);
 }
 
 /* Here, as in the proved code, a reply is its bytes and then zeros. */
@@ -124,7 +126,9 @@ static enum refusal checked_turn(struct board *board, const uint8_t *bundle, siz
 /* As in the proved code, also of settings that row 32 refuses. */
 static struct board fresh_board(const struct settings *settings)
 {
-    struct board board = {.node_id = settings->node_id, .type = settings->type, .travel = settings->travel};
+    struct board board = {
+        .node_id = settings->node_id, .type = settings->type, .travel = settings->travel, .plate = plain_plate};
+    memset(board.label, SPACE, LABEL_LENGTH);
     power_up(&board);
     return board;
 }

@@ -19,7 +19,7 @@ pub fn on_bus(node: Node, groups: [[u8; 3]; 16], order: Order, bytes: &[u8; 4096
     let command = order.command;
     let values = order.values;
     let Command::Frame = command else {
-        return at_board(node, order);
+        return at_board(node, order, bytes);
     };
     if !node.is_sound() {
         return no_node(node);

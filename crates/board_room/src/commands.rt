@@ -3,6 +3,7 @@ use crate::state::put_state;
 use board::After;
 use board::Change;
 use board::Node;
+use board::Plate;
 use board::Settings;
 use board::Verdict;
 use console::Command;
@@ -24,12 +25,12 @@ pub struct Shown {
     pub said: Said,
 }
 
-// A command of the board but `frame`; any other is passed over.
-pub fn at_board(node: Node, order: Order) -> Shown {
+// A command of the board but `frame`, with the bytes of its HEX; any other is passed over.
+pub fn at_board(node: Node, order: Order, bytes: &[u8; 4096]) -> Shown {
     let command = order.command;
     let values = order.values;
     match command {
-        Command::SetUp => set_up(node, values),
+        Command::SetUp => set_up(node, settings(values, plate(values, bytes))),
         Command::Pulse | Command::Blocked | Command::Cleared | Command::Power => event(
             node,
             command,
@@ -72,22 +73,45 @@ pub fn no_node(node: Node) -> Shown {
 
 // A fresh start has no board.
 pub fn no_board() -> Node {
-    let after = board::set_up(settings(Values::none()));
+    let after = board::set_up(settings(Values::none(), plain()));
     after.node
 }
 
 // `node ID DEC DEC`
-fn settings(values: Values) -> Settings {
+fn settings(values: Values, plate: Plate) -> Settings {
     Settings {
         id: Address(values.large(0)),
         kind: values.small(1),
         travel: Pulse(values.medium(2)),
+        plate,
+    }
+}
+
+// `DEC BYTE BYTE HEX` behind these, of six bytes; without them the plain plate.
+fn plate(values: Values, bytes: &[u8; 4096]) -> Plate {
+    if values.count(6) == 0 {
+        return plain();
+    }
+    Plate {
+        reference: values.large(3),
+        letter: values.small(4),
+        number: values.small(5),
+        origin: [bytes[0], bytes[1], bytes[2], bytes[3], bytes[4], bytes[5]],
+    }
+}
+
+fn plain() -> Plate {
+    Plate {
+        reference: 0,
+        letter: b'A',
+        number: 0,
+        origin: [b'A', b'A', b'0', b'0', b'0', b'1'],
     }
 }
 
 // On success board and table are fresh; a refusal leaves the earlier ones.
-fn set_up(node: Node, values: Values) -> Shown {
-    let after = board::set_up(settings(values));
+fn set_up(node: Node, settings: Settings) -> Shown {
+    let after = board::set_up(settings);
     let verdict = after.verdict;
     let made = after.node;
     match verdict {

@@ -1,4 +1,4 @@
-// The row of `state`: ten numbers of the motor and the lock, sixteen IPs, sixteen groups.
+// The row of `state`: ten numbers of the motor and the lock, sixteen IPs, sixteen groups, the label.
 use board::Drive;
 use board::Favourites;
 use board::Ip;
@@ -22,14 +22,15 @@ pub fn put_state(node: Node, groups: [[u8; 3]; 16], out: &mut [u8], at: usize) -
     let favourites = node.favourites;
     let numbers = with_lock(with_drive([NONE; 42], drive), lock);
     let numbers = with_groups(with_favourites(numbers, favourites), groups);
+    let label = node.label;
     put_row(
         out,
         at,
         b"pulse # target ? direction $ source $ cause $ blocked # lock # @ $ saved # \
           ips ? ? ? ? ? ? ? ? ? ? ? ? ? ? ? ? \
-          groups @ @ @ @ @ @ @ @ @ @ @ @ @ @ @ @",
+          groups @ @ @ @ @ @ @ @ @ @ @ @ @ @ @ @ label *",
         &numbers,
-        b"",
+        &label,
     )
 }
 

@@ -4,6 +4,7 @@ use crate::parts::parts;
 use crate::values::Values;
 use crate::values::read;
 use check::same;
+use std::num::wrapping_add_usize;
 
 pub enum Command {
     // An empty line or a comment.
@@ -45,6 +46,7 @@ pub fn order_of(line: &[u8], length: usize, bytes: &mut [u8; 4096]) -> Order {
         return none(Command::Bad);
     }
     let table = b"node ism;\
+        node ismlbbo;\
         frame x;\
         pulse m;\
         blocked b;\
@@ -59,7 +61,7 @@ pub fn order_of(line: &[u8], length: usize, bytes: &mut [u8; 4096]) -> Order {
         byte bm;\
         close ;\
         write bfssllx";
-    let number = row_named(table, part(line, b' ', 0));
+    let number = row_named(table, part(line, b' ', 0), parts(line, b' '));
     let row = part(table, b';', number);
     let values = read(line, part(row, b' ', 1), bytes);
     if !values.formed {
@@ -71,13 +73,15 @@ pub fn order_of(line: &[u8], length: usize, bytes: &mut [u8; 4096]) -> Order {
     }
 }
 
-// The number of the row that begins with a name, how many rows there are where none does.
-fn row_named(table: &[u8], name: &[u8]) -> usize {
+// The number of the row of a name and so many words, the name among them; how many rows there are where none is.
+fn row_named(table: &[u8], name: &[u8], words: usize) -> usize {
     let count = parts(table, b';');
     for number in 0..count {
         let row = part(table, b';', number);
-        if same(part(row, b' ', 0), name) {
-            return number;
+        if wrapping_add_usize(part(row, b' ', 1).len(), 1) == words {
+            if same(part(row, b' ', 0), name) {
+                return number;
+            }
         }
     }
     count
@@ -98,21 +102,21 @@ fn none(command: Command) -> Order {
 // By its number in the table.
 fn command_of(number: usize) -> Command {
     match number {
-        0 => Command::SetUp,
-        1 => Command::Frame,
-        2 => Command::Pulse,
-        3 => Command::Blocked,
-        4 => Command::Cleared,
-        5 => Command::Power,
-        6 => Command::State,
-        7 => Command::Line,
-        8 => Command::Strike,
-        9 => Command::Motors,
-        10 => Command::Store,
-        11 => Command::Load,
-        12 => Command::Byte,
-        13 => Command::Close,
-        14 => Command::Write,
+        0 | 1 => Command::SetUp,
+        2 => Command::Frame,
+        3 => Command::Pulse,
+        4 => Command::Blocked,
+        5 => Command::Cleared,
+        6 => Command::Power,
+        7 => Command::State,
+        8 => Command::Line,
+        9 => Command::Strike,
+        10 => Command::Motors,
+        11 => Command::Store,
+        12 => Command::Load,
+        13 => Command::Byte,
+        14 => Command::Close,
+        15 => Command::Write,
         _ => Command::Bad,
     }
 }

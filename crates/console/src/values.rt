@@ -1,9 +1,8 @@
 // What the words of a line stand for, by a letter for each word behind the first: `f`, `s`, `m` and `l` are DEC up to 1,
-// 255, 65,535 and 4,294,967,295, `b` is BYTE, `i` is ID, and `x` is HEX, whose bytes go into a lent run and whose count is
-// the value.
+// 255, 65,535 and 4,294,967,295, `b` is BYTE, `i` is ID, and `x` is HEX, `o` HEX of six bytes, whose bytes go into a lent
+// run and whose count is the value.
 use crate::parts::between;
 use crate::parts::part;
-use crate::parts::parts;
 use std::num::wrapping_add_u64;
 
 pub struct Values {
@@ -41,14 +40,11 @@ impl Values {
     }
 }
 
-// Each word by its letter.
+// Each word by its letter; a word that is missing is malformed.
 pub fn read(line: &[u8], letters: &[u8], bytes: &mut [u8]) -> Values {
     let mut values = Values::none();
     let count = letters.len();
     if count >= 8 {
-        return values;
-    }
-    if parts(line, b' ') != count + 1 {
         return values;
     }
     for i in 0..count {
@@ -75,6 +71,7 @@ fn value_of(word: &[u8], letter: u8, bytes: &mut [u8]) -> Value {
         b'l' => decimal(word, 0xFFFF_FFFF),
         b'b' => hexadecimal(word, 2),
         b'i' => hexadecimal(word, 6),
+        b'o' => exactly(word, 12, bytes),
         _ => bytes_of(word, bytes),
     }
 }
@@ -123,6 +120,14 @@ fn scaled(total: u64, base: u8) -> u64 {
         return total % 0x1_0000_0000 * 16;
     }
     total % 0x1_0000_0000 * 10
+}
+
+// HEX of so many digits.
+fn exactly(word: &[u8], digits: usize, bytes: &mut [u8]) -> Value {
+    if word.len() != digits {
+        return Value::Malformed;
+    }
+    bytes_of(word, bytes)
 }
 
 // HEX of any even number of digits, into the bytes that are lent; `-` is none.

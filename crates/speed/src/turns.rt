@@ -2,6 +2,7 @@
 use crate::slots::SLOT;
 use crate::slots::bundle;
 use board::Node;
+use board::Plate;
 use board::Settings;
 use frame::Address;
 use node::Answer;
@@ -15,7 +16,14 @@ use travel::Pulse;
 pub extern "C" fn speed_board(slots: &[u8], id: u32, kind: u8, travel: u16) -> u64 {
     let id = Address(id);
     let travel = Pulse(travel);
-    let started = board::power_up(Node::fresh(Settings { id, kind, travel }));
+    let plate = plain();
+    let settings = Settings {
+        id,
+        kind,
+        travel,
+        plate,
+    };
+    let started = board::power_up(Node::fresh(settings));
     let mut node = started.node;
     let mut groups = board::no_groups();
     let mut total: u64 = 0;
@@ -33,6 +41,16 @@ pub extern "C" fn speed_board(slots: &[u8], id: u32, kind: u8, travel: u16) -> u
         at += SLOT;
     }
     total
+}
+
+// The plate of a set-up that names none.
+fn plain() -> Plate {
+    Plate {
+        reference: 0,
+        letter: b'A',
+        number: 0,
+        origin: [b'A', b'A', b'0', b'0', b'0', b'1'],
+    }
 }
 
 fn worth(answer: Answer, reply: Reply) -> u64 {

@@ -14,7 +14,8 @@ abbrev μ-loop : tie.MeasureT-loop
 
 -- The slots end within the numbers: so does a place before their end.
 add-at : tie.Need-add-at Inv-loop μ-loop
-add-at c = search (needs, c .before .before .before .before .before .before .before .before .before .before .before .before .before .before .good)
+add-at c =
+    search (needs, c .before .before .before .before .before .before .before .before .before .before .before .before .before .before .before .good)
 
 pub speed-board-spec : {M : Type 1} → statement M
 speed-board-spec =
@@ -22,6 +23,7 @@ speed-board-spec =
     (tie.spec
     Inv-loop
     μ-loop
+    (λ c κs. search needs)
     (λ c κs. search needs)
     (λ c κs. search needs)
     (λ c κs. search needs)
