@@ -48,6 +48,7 @@ pub board-contracts : BoardContracts
 board-contracts =
     record {
       plate-in-range-is = λ κs a. (refl, (tt, λ x s p. p));
+      a-plate-is-32-bits-two-bytes-and-six = refl;
       in-range-is = λ κs a. (refl, (tt, λ x s p. p));
       drive = drive-contracts;
       favourites = favourites-contracts;
@@ -61,6 +62,7 @@ board-contracts =
       with-label-is = λ κs a. (refl, (tt, λ x s p. p));
       blank-label-is = λ κs a. (refl, (tt, λ x s p. p));
       is-label-is = λ κs a. (refl, (tt, λ x s p. p));
+      a-label-is-sixteen-bytes = refl;
       set-up-is = λ κs a. (refl, (tt, λ x s p. p));
       at-pulse-is = λ κs a. (refl, (tt, λ x s p. p));
       blocked-is = λ κs a. (refl, (tt, λ x s p. p));

@@ -25,6 +25,7 @@ serial-contracts =
     record {
       serial-of-is = λ κs a. (refl, (tt, λ x s p. p));
       is-origin-is = λ κs a. (refl, (tt, λ x s p. p));
+      a-serial-is-of-32-bits-and-six-bytes = refl;
       an-origin-is-six-bytes = refl;
     }
 

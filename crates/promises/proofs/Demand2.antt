@@ -17,6 +17,7 @@ use Rattle.promises.specs.Demand2.Positions.{IsNearest, Positions}
 use Rattle.promises.specs.Demand2.{Demand2}
 use Rattle.promises.proofs.LineReader.{line-reader}
 use Rattle.promises.proofs.Frames.{rules-exactly-when, frames}
+use Rattle.promises.proofs.Labels.{characters-are, characters-so}
 use Rattle.promises.proofs.BoardInRange.{settings-exactly-when, sound-exactly-when}
 use Rattle.promises.proofs.Status.{status}
 use Rattle.promises.proofs.Meant.{passed-over}
@@ -79,6 +80,7 @@ kept =
       frames = frames;
       line-reader = line-reader;
       serials = serials;
+      labels = record { labels-are-told = λ label. (characters-are label, characters-so label) };
       board = board;
       positions = positions;
       register = register;

@@ -1,6 +1,6 @@
 -- A serial's characters by their places; what is told is told by the tests of the definition.
 -- Assumes nothing.
-use Prim.Native.Nat.{ℕ, _<_}
+use Prim.Native.Nat.{ℕ, _≤_, _<_}
 use mathlib.Core.Path.{_≡_, refl, sym, ap, _∙_}
 use mathlib.Core.Logic.{_↔_}
 use mathlib.Core.Bool.{true}
@@ -98,6 +98,9 @@ module _ (id : ℕ) (serial : List ℕ) where
       (λ place h. is-spelt (digitAt id place) (byteAt serial place) (rules .the-NodeID-first place h))
       (origins (originOf serial) .1 (rules .then-its-origin))
 
+one-serial : (id other : ℕ) (serial : List ℕ) → id ≤ 0xFFFFFF → other ≤ 0xFFFFFF → SerialRules id serial → SerialRules other serial → id ≡ other
+one-serial id other serial h k rules rules′ = one-node id other serial (is-right id serial rules) (is-right other serial rules′) h k
+
 pub serials : Serials
 serials =
     record {
@@ -112,6 +115,5 @@ serials =
       a-right-serial-names-its-NodeID = λ id serial h rules. read-node id serial (is-right id serial rules) h;
       a-right-serial-is-spelled-again = λ id serial h rules. spelled-again id serial (is-right id serial rules) h;
       two-NodeIDs-are-spelled-apart = λ id other origin origin′ h k same. same-node id other origin origin′ same h k;
-      one-serial-one-NodeID =
-          λ id other serial h k rules rules′. one-node id other serial (is-right id serial rules) (is-right other serial rules′) h k;
+      one-serial-one-NodeID = one-serial;
     }

@@ -12,6 +12,7 @@ pub mod Turns
 pub mod Codes
 pub mod Favourites
 pub mod Fitting
+pub mod Labels
 pub mod Effects
 pub mod Answers
 pub mod Example
@@ -25,6 +26,7 @@ pub record Demand2 : Type 1 where
   pub frames : Frames.Frames
   pub line-reader : LineReader.LineReader
   pub serials : Serials
+  pub labels : Labels.Labels
   pub board : Board.Board
   pub positions : Positions.Positions
   pub register : Register.Register

@@ -48,5 +48,29 @@ R01-told =
       reply = record { count = 23; bytes = serialTold ++ replicate 8 0 };
     }
 
+-- 2026-01: 003's reference 5063486, A, 02, low byte first: GET version, 74h, asked like the above, and its 75h: 17 bytes, then
+-- zeros.
+abbrev pub versioned : Node
+versioned =
+    freshNode (record { id = address 0x010203; kind = 2; travel = pulse 1000; plate = plate 5063486 0x41 0x02 made })
+
+abbrev pub getVersion : List ℕ
+getVersion = 0x8B ∷ 0xF4 ∷ 0xFD ∷ 0xFF ∷ 0x00 ∷ 0x00 ∷ 0xFC ∷ 0xFD ∷ 0xFE ∷ 0x06 ∷ 0x72 ∷ []
+
+abbrev pub versionTold : List ℕ
+versionTold =
+    0x8A ∷ 0xEE ∷ 0xDF ∷ 0xFC ∷ 0xFD ∷ 0xFE ∷ 0xFF ∷ 0x00 ∷ 0x00
+    ∷ 0xC1 ∷ 0xBC ∷ 0xB2 ∷ 0xBE ∷ 0xFD ∷ 0x00 ∷ 0x0A ∷ 0x37 ∷ []
+
+abbrev pub R01-version : Type 0
+R01-version =
+    turnOf versioned emptyTable getVersion
+    ≡ record {
+      node = versioned;
+      change = Keep;
+      answer = Replied;
+      reply = record { count = 17; bytes = versionTold ++ replicate 14 0 };
+    }
+
 abbrev pub requestFigures : List (Type 0)
-requestFigures = R01-serial ∷ R01-asked ∷ R01-told ∷ []
+requestFigures = R01-serial ∷ R01-asked ∷ R01-told ∷ R01-version ∷ []

@@ -1,8 +1,10 @@
 -- The contracts of `board`: its settings, the whole state, events and the group table; the motor, the IPs and the lock
 -- have files of their own.
 -- Assumes nothing.
+use mathlib.Core.Path.{_≡_}
 use mathlib.Core.Bool.{_&&_}
-use mathlib.Core.List.{[], _∷_}
+use mathlib.Core.List.{[], _∷_, map}
+use mir.Syntax.{tyInt, tyArray, tnil, tcons, w8, w32}
 use lib.Dec.{leb}
 use lib.ListN.{replicate}
 use Rattle.meaning.specs.Choice.{if_then_else_}
@@ -18,7 +20,7 @@ use Rattle.board.proofs.plate.Plate as Plate
 use Rattle.board.proofs.settings.Settings as Settings
 use Rattle.board.proofs.whole.Node as Node
 use Rattle.promises.specs.BoardParts.{freshNode}
-use Rattle.promises.specs.Contracts.Says.{Says}
+use Rattle.promises.specs.Contracts.Says.{typesOf, fieldsOf, Says}
 use Rattle.promises.specs.Contracts.Drive.{running, DriveContracts}
 use Rattle.promises.specs.Contracts.Favourites.{FavouritesContracts}
 use Rattle.promises.specs.Contracts.Lock.{LockContracts}
@@ -30,6 +32,10 @@ pub record BoardContracts : Type 0 where
       (λ κs (plate, _).
       leb (plate .reference) 0xFFFFFF
       && (leb 0x41 (plate .letter) && (leb (plate .letter) 0x5A && isOrigin (plate .origin))))
+  -- A plate is a reference of 32 bits, so that 24 fit, letter and number of a byte each, and six characters.
+  pub a-plate-is-32-bits-two-bytes-and-six :
+      map fieldsOf (typesOf Plate.in_range.Kinds.ps)
+      ≡ tcons (tyInt w32) (tcons (tyInt w8) (tcons (tyInt w8) (tcons (tyArray (tyInt w8) 6) tnil))) ∷ []
   -- Row 32: a NodeID, type 1 to 15, travel from 100, and a plate.
   pub in-range-is :
       Says Settings.in_range.Kinds.ps Settings.in_range.Kinds.r Settings.in_range.Reads.Pre Settings.in_range.Reads.Post
@@ -104,6 +110,7 @@ pub record BoardContracts : Type 0 where
   pub is-label-is :
       Says board.is_label.Kinds.ps board.is_label.Kinds.r board.is_label.Reads.Pre board.is_label.Reads.Post
       (λ κs (label, _). isLabel label)
+  pub a-label-is-sixteen-bytes : typesOf board.is_label.Kinds.ps ≡ tyArray (tyInt w8) 16 ∷ []
   -- Set-up, and the events from the motor and the supply.
   pub set-up-is :
       Says board.set_up.Kinds.ps board.set_up.Kinds.r board.set_up.Reads.Pre board.set_up.Reads.Post

@@ -2,7 +2,7 @@
 -- Assumes nothing.
 use mathlib.Core.Path.{_≡_}
 use mathlib.Core.List.{[], _∷_}
-use mir.Syntax.{tyInt, tyArray, w8}
+use mir.Syntax.{tyInt, tyArray, w8, w32}
 use Rattle.serial.specs.Serial.{serialOf, isOrigin}
 use Rattle.serial.proofs as serial
 use Rattle.promises.specs.Contracts.Says.{typesOf, Says}
@@ -14,5 +14,7 @@ pub record SerialContracts : Type 0 where
   pub is-origin-is :
       Says serial.is_origin.Kinds.ps serial.is_origin.Kinds.r serial.is_origin.Reads.Pre serial.is_origin.Reads.Post
       (λ κs (origin, _). isOrigin origin)
-  -- An origin is six bytes.
+  -- A NodeID is taken whole, and an origin is six bytes.
+  pub a-serial-is-of-32-bits-and-six-bytes :
+      typesOf serial.serial_of.Kinds.ps ≡ tyInt w32 ∷ tyArray (tyInt w8) 6 ∷ []
   pub an-origin-is-six-bytes : typesOf serial.is_origin.Kinds.ps ≡ tyArray (tyInt w8) 6 ∷ []
