@@ -5,5 +5,4 @@ mod state;
 pub use commands::Shown;
 pub use commands::at_board;
 pub use commands::no_board;
-pub use commands::no_node;
 pub use commands::put_board;

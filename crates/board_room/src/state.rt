@@ -1,49 +1,69 @@
 // The row of `state`: ten numbers of the motor and the lock, sixteen IPs, sixteen groups, the label.
 use board::Drive;
-use board::Favourites;
 use board::Ip;
 use board::Lock;
 use board::Motion;
 use board::Node;
+use board::Slot;
 use console::NONE;
-use console::Row;
+use console::answer;
 use console::plainly;
 use console::put_row;
 use console::put_said;
+use console::put_text;
 use frame::Address;
-ghost use Prim.Native.Nat.{_≤_};
 
-pub fn put_state(node: Node, groups: [[u8; 3]; 16], out: &mut [u8], at: usize) -> usize {
+pub fn put_state(node: Node, groups: [[u8; 3]; 16], out: &mut [u8; 65536], at: u16) -> u16 {
     if !node.is_sound() {
-        return put_said(out, at, plainly(Row::NoNode));
+        return put_said(out, at, plainly(answer::NO_NODE));
     }
     let drive = node.drive;
     let lock = node.lock;
     let favourites = node.favourites;
-    let numbers = with_lock(with_drive([NONE; 42], drive), lock);
-    let numbers = with_groups(with_favourites(numbers, favourites), groups);
+    let slots = favourites.slots;
     let label = node.label;
-    put_row(
+    let behind = put_motor(numbers(drive, lock), out, at);
+    let behind = put_tables(pulses(slots), addresses(groups), out, behind);
+    put_label(label, out, behind)
+}
+
+fn put_motor(numbers: [u32; 10], out: &mut [u8; 65536], at: u16) -> u16 {
+    put_text(
         out,
         at,
-        b"pulse # target ? direction $ source $ cause $ blocked # lock # @ $ saved # \
-          ips ? ? ? ? ? ? ? ? ? ? ? ? ? ? ? ? \
-          groups @ @ @ @ @ @ @ @ @ @ @ @ @ @ @ @ label *",
+        b"pulse # target - direction $ source $ cause $ blocked # lock # @ $ saved #",
         &numbers,
-        &label,
     )
 }
 
-fn with_drive(numbers: [u32; 42], drive: Drive) -> [u32; 42] {
-    let mut numbers = numbers;
+fn put_tables(ips: [u32; 16], groups: [u32; 16], out: &mut [u8; 65536], at: u16) -> u16 {
+    let behind = put_text(out, at, b" ips - - - - - - - - - - - - - - - -", &ips);
+    put_text(
+        out,
+        behind,
+        b" groups @ @ @ @ @ @ @ @ @ @ @ @ @ @ @ @",
+        &groups,
+    )
+}
+
+fn put_label(label: [u8; 16], out: &mut [u8; 65536], at: u16) -> u16 {
+    put_row(out, at, b" label ", 0, &label)
+}
+
+fn numbers(drive: Drive, lock: Lock) -> [u32; 10] {
     let motion = drive.motion;
-    numbers[0] = drive.position.0 as u32;
-    numbers[1] = target(motion);
-    numbers[2] = drive.direction as u32;
-    numbers[3] = drive.source as u32;
-    numbers[4] = drive.cause as u32;
-    numbers[5] = drive.blocked as u32;
-    numbers
+    [
+        drive.position.0 as u32,
+        target(motion),
+        drive.direction as u32,
+        drive.source as u32,
+        drive.cause as u32,
+        drive.blocked as u32,
+        lock.locked as u32,
+        lock.holder.0,
+        lock.priority as u32,
+        lock.saved as u32,
+    ]
 }
 
 fn target(motion: Motion) -> u32 {
@@ -53,24 +73,14 @@ fn target(motion: Motion) -> u32 {
     }
 }
 
-fn with_lock(numbers: [u32; 42], lock: Lock) -> [u32; 42] {
-    let mut numbers = numbers;
-    numbers[6] = lock.locked as u32;
-    numbers[7] = lock.holder.0;
-    numbers[8] = lock.priority as u32;
-    numbers[9] = lock.saved as u32;
-    numbers
-}
-
-fn with_favourites(numbers: [u32; 42], favourites: Favourites) -> [u32; 42] {
-    let mut numbers = numbers;
-    let slots = favourites.slots;
+fn pulses(slots: [Slot; 16]) -> [u32; 16] {
+    let mut pulses = [NONE; 16];
     for i in 0..16 {
         let slot = slots[i];
         let ip = slot.ip;
-        numbers[10 + i] = pulse(ip);
+        pulses[i] = pulse(ip);
     }
-    numbers
+    pulses
 }
 
 fn pulse(ip: Ip) -> u32 {
@@ -80,12 +90,16 @@ fn pulse(ip: Ip) -> u32 {
     }
 }
 
-fn with_groups(numbers: [u32; 42], groups: [[u8; 3]; 16]) -> [u32; 42] {
-    let mut numbers = numbers;
+fn addresses(groups: [[u8; 3]; 16]) -> [u32; 16] {
+    let mut addresses = [0; 16];
     for i in 0..16 {
         let entry = groups[i];
-        let group = Address::from_bytes(entry[0], entry[1], entry[2]);
-        numbers[26 + i] = group.0;
+        addresses[i] = address(entry);
     }
-    numbers
+    addresses
+}
+
+fn address(entry: [u8; 3]) -> u32 {
+    let group = Address::from_bytes(entry[0], entry[1], entry[2]);
+    group.0
 }

@@ -1,82 +1,136 @@
-// Which command a line is.
-use crate::parts::part;
-use crate::parts::parts;
-use crate::values::Values;
-use crate::values::read;
+// Which command a line is, and the numbers of its words.
+use crate::lines::first;
+use crate::words::MALFORMED;
+use crate::words::part;
+use crate::words::parts;
+use crate::words::value_of;
 use check::same;
 use std::num::wrapping_add_usize;
 
-pub enum Command {
-    // An empty line or a comment.
-    Pass,
-    // No command, or malformed.
-    Bad,
-    SetUp,
-    Frame,
-    Pulse,
-    Blocked,
-    Cleared,
-    Power,
-    State,
-    Line,
-    Strike,
-    Motors,
-    Store,
-    Load,
-    Byte,
-    Close,
-    Write,
+// A command, by its place in the table, and a number for each word behind its name.
+pub struct Order {
+    pub command: usize,
+    pub numbers: [u32; 8],
+    // How many bytes the last word has, where it is HEX.
+    pub count: usize,
 }
 
-// A command and the values of the words behind its name.
-pub struct Order {
-    pub command: Command,
-    pub values: Values,
-}
+pub const NODE: usize = 0;
+
+pub const NODE_AND_PLATE: usize = 1;
+
+pub const FRAME: usize = 2;
+
+pub const PULSE: usize = 3;
+
+pub const BLOCKED: usize = 4;
+
+pub const CLEARED: usize = 5;
+
+pub const POWER: usize = 6;
+
+pub const STATE: usize = 7;
+
+pub const LINE: usize = 8;
+
+pub const STRIKE: usize = 9;
+
+pub const MOTORS: usize = 10;
+
+pub const STORE: usize = 11;
+
+pub const LOAD: usize = 12;
+
+pub const BYTE: usize = 13;
+
+pub const CLOSE: usize = 14;
+
+pub const WRITE: usize = 15;
+
+// No command, or malformed: the place behind the table.
+pub const BAD: usize = 16;
+
+// An empty line or a comment.
+const PASS: usize = 17;
 
 // The longest line that is one.
 const LONGEST: usize = 8192;
 
-// The bytes of a HEX word go into the run that is lent.
-pub fn order_of(line: &[u8], length: usize, bytes: &mut [u8; 4096]) -> Order {
-    if passed_over(line) {
-        return none(Command::Pass);
+impl Order {
+    pub fn large(self, which: usize) -> u32 {
+        let place = which % 8;
+        self.numbers[place]
     }
-    if length > LONGEST {
-        return none(Command::Bad);
+
+    pub fn medium(self, which: usize) -> u16 {
+        (self.large(which) % 65536) as u16
     }
-    let table = b"node ism;\
-        node ismlbbo;\
-        frame x;\
-        pulse m;\
-        blocked b;\
-        cleared ;\
-        power ;\
-        state ;\
-        line sx;\
-        strike si;\
-        motors ;\
-        store ;\
-        load x;\
-        byte bm;\
-        close ;\
-        write bfssllx";
-    let number = row_named(table, part(line, b' ', 0), parts(line, b' '));
-    let row = part(table, b';', number);
-    let values = read(line, part(row, b' ', 1), bytes);
-    if !values.formed {
-        return none(Command::Bad);
+
+    pub fn small(self, which: usize) -> u8 {
+        (self.large(which) % 256) as u8
     }
-    Order {
-        command: command_of(number),
-        values,
+
+    // The bytes of the last word, where it is HEX.
+    pub fn hex(self, bytes: &[u8; 4096]) -> &[u8] {
+        first(bytes, self.count)
+    }
+
+    // With one word more; a malformed one makes it a bad line.
+    fn with(self, which: usize, value: u64, count: usize) -> Order {
+        let mut order = self;
+        let place = which % 8;
+        order.numbers[place] = (value % MALFORMED) as u32;
+        order.count = count;
+        if value == MALFORMED {
+            order.command = BAD;
+        }
+        order
     }
 }
 
-// The number of the row of a name and so many words, the name among them; how many rows there are where none is.
+// The bytes of the last HEX word go into the run that is lent.
+pub fn order_of(line: &[u8], bytes: &mut [u8; 4096]) -> Order {
+    let table = b"node 3sm;\
+        node 3sml116;\
+        frame 0;\
+        pulse m;\
+        blocked 1;\
+        cleared ;\
+        power ;\
+        state ;\
+        line s0;\
+        strike s3;\
+        motors ;\
+        store ;\
+        load 0;\
+        byte 1m;\
+        close ;\
+        write 1tssll0";
+    let command = command_of(table, line);
+    read(
+        command,
+        part(part(table, b';', command), b' ', 1),
+        line,
+        bytes,
+    )
+}
+
+fn command_of(table: &[u8], line: &[u8]) -> usize {
+    if line.len() == 0 {
+        return PASS;
+    }
+    if line[0] == b'#' {
+        return PASS;
+    }
+    if line.len() > LONGEST {
+        return BAD;
+    }
+    row_named(table, part(line, b' ', 0), parts(line))
+}
+
+// The row of a name and so many words, the name among them.
 fn row_named(table: &[u8], name: &[u8], words: usize) -> usize {
-    let count = parts(table, b';');
-    for number in 0..count {
+    for number in 0..BAD {
         let row = part(table, b';', number);
         if wrapping_add_usize(part(row, b' ', 1).len(), 1) == words {
             if same(part(row, b' ', 0), name) {
@@ -84,39 +138,19 @@ fn row_named(table: &[u8], name: &[u8], words: usize) -> usize {
             }
         }
     }
-    count
+    BAD
 }
 
-fn passed_over(line: &[u8]) -> bool {
-    if line.len() == 0 {
-        return true;
+// Each word by its kind.
+fn read(command: usize, kinds: &[u8], line: &[u8], bytes: &mut [u8; 4096]) -> Order {
+    let mut order = Order {
+        command,
+        numbers: [0; 8],
+        count: 0,
+    };
+    for i in 0..kinds.len() {
+        let word = part(line, b' ', i + 1);
+        order = order.with(i, value_of(kinds[i], word, bytes), word.len() / 2);
     }
-    line[0] == b'#'
-}
-
-fn none(command: Command) -> Order {
-    let values = Values::none();
-    Order { command, values }
-}
-
-// By its number in the table.
-fn command_of(number: usize) -> Command {
-    match number {
-        0 | 1 => Command::SetUp,
-        2 => Command::Frame,
-        3 => Command::Pulse,
-        4 => Command::Blocked,
-        5 => Command::Cleared,
-        6 => Command::Power,
-        7 => Command::State,
-        8 => Command::Line,
-        9 => Command::Strike,
-        10 => Command::Motors,
-        11 => Command::Store,
-        12 => Command::Load,
-        13 => Command::Byte,
-        14 => Command::Close,
-        15 => Command::Write,
-        _ => Command::Bad,
-    }
+    order
 }

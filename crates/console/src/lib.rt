@@ -1,25 +1,21 @@
-// The text side of a console: lines out of what is read, the command that a line is, the values of its words, and
+// The text side of a console: lines out of what is read, the command that a line is, the numbers of its words, and
 // rows of text.
-mod command;
+pub mod answer;
+pub mod command;
 mod lines;
-mod parts;
 mod rows;
-mod said;
-mod values;
+mod words;
 
-pub use command::Command;
+pub use answer::Said;
+pub use answer::plainly;
+pub use answer::put_said;
+pub use answer::refused;
+pub use answer::with_bytes;
+pub use answer::with_number;
 pub use command::Order;
 pub use command::order_of;
 pub use lines::Input;
-pub use lines::Length;
-pub use lines::text_of;
+pub use lines::first;
 pub use rows::NONE;
-pub use rows::first;
 pub use rows::put_row;
-pub use said::Row;
-pub use said::Said;
-pub use said::plainly;
-pub use said::put_said;
-pub use said::refused;
-pub use said::with_bytes;
-pub use values::Values;
+pub use rows::put_text;

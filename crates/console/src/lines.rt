@@ -1,19 +1,15 @@
 // Lines out of what is read, a chunk at a time.
-use crate::rows::first;
 use libc::STDIN_FILENO;
 ghost use Prim.Native.Nat.{_≤_};
 
-// What is read of the input: the chunk has so many bytes and is used up to a place, and so many bytes of the line
-// are held.
+// What is read of the input: the chunk has so many bytes, none where the input is over, and is used up to a place; so
+// many bytes of the line are held.
 pub struct Input {
     pub have: usize,
     pub next: usize,
-    // 8,194 stands for more than a line can have.
     pub held: usize,
     // A line feed has ended the line.
     pub ended: bool,
-    // There is no more to read.
-    pub over: bool,
 }
 
 impl Input {
@@ -22,34 +18,33 @@ impl Input {
             have: 0,
             next: 0,
             held: 0,
-            ended: false,
-            over: false,
+            ended: true,
         }
     }
 
     // The next line, or as much of it as the chunk has; a chunk that is used up is read anew.
-    pub fn more(self, chunk: &mut [u8; 65536], line: &mut [u8; 8193]) -> Input {
+    pub fn more(self, chunk: &mut [u8; 65536], line: &mut [u8; 8194]) -> Input {
         let mut input = self;
         if input.next >= input.have {
             input.have = read_some(chunk);
             input.next = 0;
-            input.over = input.have == 0;
         }
-        take_line(input, chunk, line)
+        if input.ended {
+            input.held = 0;
+        }
+        take_line(input, first(chunk, input.have), line)
     }
 
-    // Of a whole line its length: a line feed has ended it, or the input is over.
-    pub fn length(self, line: &[u8; 8193]) -> Length {
+    // The line; none, as if it was empty, where it goes on. At the end of the input it may lack its line feed.
+    pub fn text(self, line: &[u8; 8194]) -> &[u8] {
+        let held = first(line, self.held);
         if self.ended {
-            return Length::Is(without_return(line, self.held));
+            return without_return(held);
         }
-        if !self.over {
-            return Length::Open;
+        if self.have > 0 {
+            return first(line, 0);
         }
-        if self.held == 0 {
-            return Length::Open;
-        }
-        Length::Is(self.held)
+        held
     }
 
     // All that was read is used.
@@ -58,82 +53,57 @@ impl Input {
     }
 }
 
-pub enum Length {
-    Is(usize),
-    // The line goes on.
-    Open,
-}
-
 fn read_some(chunk: &mut [u8; 65536]) -> usize {
     let got = libc::read(STDIN_FILENO, chunk);
     io::count(got, chunk)
 }
 
-// The chunk's bytes up to the next line feed, behind what is held of the line where that was not ended.
-fn take_line(input: Input, chunk: &[u8; 65536], line: &mut [u8; 8193]) -> Input {
-    let mut taken = input;
+// The chunk's bytes up to the next line feed, behind what is held of the line.
+fn take_line(input: Input, chunk: &[u8], line: &mut [u8; 8194]) -> Input {
     let mut next = input.next;
-    let mut held = open(input);
-    let end = limit(input.have);
-    taken.ended = false;
-    while next < end {
+    let mut held = input.held;
+    let mut ended = false;
+    while next < chunk.len() {
         let byte = chunk[next];
         next += 1;
         if byte == b'\n' {
-            taken.next = next;
-            taken.held = held;
-            taken.ended = true;
-            return taken;
+            ended = true;
+            break;
         }
         held = hold(line, held, byte);
     }
-    taken.next = next;
-    taken.held = held;
-    taken
-}
-
-// How many bytes are held of a line that goes on.
-fn open(input: Input) -> usize {
-    if input.ended {
-        return 0;
+    Input {
+        have: input.have,
+        next,
+        held,
+        ended,
     }
-    input.held
 }
 
-// A chunk has no more than it can hold.
-fn limit(have: usize) -> usize
-    ensures { λ r. ⌜ r ≤ 65536 ⌝ }
-{
-    if have > 65536 {
-        return 65536;
+// The longest line, a carriage return and one byte more are held: what is longer is too long by these.
+fn hold(line: &mut [u8; 8194], held: usize, byte: u8) -> usize {
+    if held < 8194 {
+        line[held] = byte;
+        return held + 1;
     }
-    have
-}
-
-// A line of 8,192 bytes and a carriage return is held whole.
-fn hold(line: &mut [u8; 8193], count: usize, byte: u8) -> usize {
-    if count < 8193 {
-        line[count] = byte;
-        return count + 1;
-    }
-    8194
-}
-
-// The bytes of the line.
-pub fn text_of(line: &[u8; 8193], length: usize) -> &[u8] {
-    first(line, length)
+    held
 }
 
 // A carriage return just before the line feed is not part of the line.
-fn without_return(line: &[u8; 8193], held: usize) -> usize {
-    if held == 0 {
-        return held;
+fn without_return(text: &[u8]) -> &[u8] {
+    let count = text.len();
+    if count > 0 {
+        if text[count - 1] == b'\r' {
+            return first(text, count - 1);
+        }
     }
-    if held > 8193 {
-        return held;
+    text
+}
+
+// The first bytes of a run, all of it where it has fewer.
+pub fn first(bytes: &[u8], count: usize) -> &[u8] {
+    if count > bytes.len() {
+        return bytes;
     }
-    if line[held - 1] == b'\r' {
-        return held - 1;
-    }
-    held
+    &bytes[..count]
 }

@@ -1,14 +1,16 @@
 // The register's commands, and its rows.
-use console::Command;
+use console::NONE;
 use console::Order;
-use console::Row;
 use console::Said;
-use console::Values;
+use console::answer;
+use console::command;
 use console::first;
 use console::plainly;
 use console::put_row;
 use console::put_said;
+use console::put_text;
 use console::refused;
+use console::with_number;
 use form::Written;
 use motors::Answer;
 use motors::Motor;
@@ -23,23 +25,35 @@ pub struct Kept {
     pub said: Said,
 }
 
-pub fn at_register(
-    motors: [Motor; PLACES],
-    count: usize,
-    order: Order,
-    bytes: &[u8; 4096],
-) -> Kept {
+// A fresh start has an empty register.
+pub fn unkept() -> Kept {
+    let none = motors::unread(0, 0);
+    Kept {
+        motors: [none; PLACES],
+        count: 0,
+        said: plainly(answer::NO_ROW),
+    }
+}
+
+// `line DEC HEX`, `strike DEC ID`, `load HEX`; any other is passed over.
+pub fn at_register(kept: Kept, order: Order, bytes: &[u8]) -> Kept {
     let command = order.command;
-    let values = order.values;
+    let motors = kept.motors;
+    let count = kept.count;
     match command {
-        Command::Line | Command::Strike | Command::Load => after_call(
+        command::LINE => after_call(
             count,
-            next(motors, count, command, values, bytes),
+            register::received(motors, count, order.small(0), bytes),
         ),
+        command::STRIKE => after_call(
+            count,
+            register::struck_out(motors, count, order.small(0), order.large(1)),
+        ),
+        command::LOAD => after_call(count, register::restored(motors, bytes)),
         _ => Kept {
             motors,
             count,
-            said: plainly(Row::Pass),
+            said: plainly(answer::NO_ROW),
         },
     }
 }
@@ -52,7 +66,7 @@ fn after_call(held: usize, next: Next) -> Kept {
         Answer::Count(count) => Kept {
             motors,
             count,
-            said: plainly(Row::Done),
+            said: plainly(answer::DONE),
         },
         Answer::Refused(refusal) => Kept {
             motors,
@@ -62,49 +76,22 @@ fn after_call(held: usize, next: Next) -> Kept {
     }
 }
 
-// A fresh start has an empty register.
-pub fn no_motors() -> [Motor; PLACES] {
-    let none = motors::unread(0, 0);
-    [none; PLACES]
-}
-
-// `line DEC HEX`, `strike DEC ID`, `load HEX`
-fn next(
-    motors: [Motor; PLACES],
-    count: usize,
-    command: Command,
-    values: Values,
-    bytes: &[u8],
-) -> Next {
-    match command {
-        Command::Line => register::received(
-            motors,
-            count,
-            values.small(0),
-            first(bytes, values.count(1)),
-        ),
-        Command::Strike => register::struck_out(motors, count, values.small(0), values.large(1)),
-        _ => register::restored(motors, first(bytes, values.count(0))),
-    }
-}
-
 // The answer, the rows of `motors` or the row of `store`.
-pub fn put_register(kept: Kept, order: Order, out: &mut [u8; 65536], at: usize) -> usize {
+pub fn put_register(kept: Kept, order: Order, out: &mut [u8; 65536], at: u16) -> u16 {
     let command = order.command;
     let motors = kept.motors;
     let said = kept.said;
     match command {
-        Command::Motors => put_motors(motors, kept.count, out, at),
-        Command::Store => put_form(motors, kept.count, out, at),
+        command::MOTORS => put_motors(motors, kept.count, out, at),
+        command::STORE => put_form(motors, kept.count, out, at),
         _ => put_said(out, at, said),
     }
 }
 
 // One row, and then one for each motor.
-fn put_motors(motors: [Motor; PLACES], count: usize, out: &mut [u8], at: usize) -> usize {
+fn put_motors(motors: [Motor; PLACES], count: usize, out: &mut [u8; 65536], at: u16) -> u16 {
     let held = places(count);
-    let numbers = [held as u32];
-    let mut behind = put_row(out, at, b"motors #", &numbers, b"");
+    let mut behind = put_said(out, at, with_number(answer::MOTORS, held as u32));
     for i in 0..held {
         let motor = motors[i];
         behind = put_motor(motor, out, behind);
@@ -122,25 +109,25 @@ fn places(count: usize) -> usize
     count
 }
 
-fn put_motor(motor: Motor, out: &mut [u8], at: usize) -> usize {
-    let numbers = [
-        motor.line,
-        motor.node,
-        motor.pulse as u32,
-        motor.percent as u32,
-        motor.ip as u32,
-    ];
+fn put_motor(motor: Motor, out: &mut [u8; 65536], at: u16) -> u16 {
+    let whose = [motor.line, motor.node];
+    let behind = put_text(out, at, b"# @ ", &whose);
+    let reading = reading_of(motor);
     if motor.mark == 0 {
-        return put_row(out, at, b"# @ -", &numbers, b"");
+        return put_text(out, behind, b"-\n", &[NONE]);
     }
-    put_row(out, at, b"# @ # # $", &numbers, b"")
+    put_text(out, behind, b"# # $\n", &reading)
 }
 
-fn put_form(motors: [Motor; PLACES], count: usize, out: &mut [u8], at: usize) -> usize {
+fn reading_of(motor: Motor) -> [u32; 3] {
+    [motor.pulse as u32, motor.percent as u32, motor.ip as u32]
+}
+
+fn put_form(motors: [Motor; PLACES], count: usize, out: &mut [u8; 65536], at: u16) -> u16 {
     let mut bytes = [0u8; 4096];
     let written = register::stored(motors, count, &mut bytes);
     match written {
-        Written::Bytes(length) => put_row(out, at, b"form *", &[0u32; 1], first(&bytes, length)),
+        Written::Bytes(length) => put_row(out, at, b"form ", 0, first(&bytes, length)),
         Written::Refused(refusal) => put_said(out, at, refused(refusal)),
     }
 }

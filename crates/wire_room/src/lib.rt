@@ -1,12 +1,9 @@
 // The line reader's commands and the writer's, and lines that are no command.
-use console::Command;
 use console::Order;
-use console::Row;
 use console::Said;
-use console::Values;
-use console::first;
+use console::answer;
+use console::command;
 use console::plainly;
-use console::put_said;
 use console::refused;
 use console::with_bytes;
 use frame::Address;
@@ -22,28 +19,28 @@ pub struct Heard {
     pub said: Said,
 }
 
-pub fn at_wire(reader: Reader, order: Order, bytes: &[u8; 4096]) -> Heard {
+// A fresh start has a fresh line reader.
+pub fn unheard() -> Heard {
+    Heard {
+        reader: Reader::fresh(),
+        said: plainly(answer::NO_ROW),
+    }
+}
+
+// `byte BYTE DEC`, `close`, and what leaves the reader as it is.
+pub fn at_wire(heard: Heard, order: Order, content: &[u8]) -> Heard {
     let command = order.command;
-    let values = order.values;
+    let reader = heard.reader;
     match command {
-        Command::Byte => after_step(reader.step(values.small(0), values.medium(1))),
-        Command::Close => after_step(reader.close()),
-        Command::Write => Heard {
-            reader,
-            said: written(header(values), first(bytes, values.count(6))),
-        },
-        Command::Bad => Heard {
-            reader,
-            said: plainly(Row::Bad),
-        },
+        command::BYTE => after_step(reader.step(order.small(0), order.medium(1))),
+        command::CLOSE => after_step(reader.close()),
         _ => Heard {
             reader,
-            said: plainly(Row::Pass),
+            said: beside_reader(order, content),
         },
     }
 }
 
-// `byte BYTE DEC`, `close`
 fn after_step(stepped: Stepped) -> Heard {
     let reader = stepped.reader;
     Heard {
@@ -56,8 +53,8 @@ fn answered(stepped: Stepped) -> Said {
     let answer = stepped.answer;
     let bundle = stepped.bundle;
     match answer {
-        Answer::Nothing => plainly(Row::Nothing),
-        Answer::Frame(_, content) => with_bytes(Row::Frame, bundle, frame_length(content)),
+        Answer::Nothing => plainly(answer::NOTHING),
+        Answer::Frame(_, content) => with_bytes(answer::FRAME, bundle, frame_length(content)),
         Answer::Refused(refusal) => refused(refusal),
     }
 }
@@ -70,15 +67,24 @@ fn frame_length(content: usize) -> usize {
     11 + content
 }
 
+fn beside_reader(order: Order, content: &[u8]) -> Said {
+    let command = order.command;
+    match command {
+        command::WRITE => written(header(order), content),
+        command::BAD => plainly(answer::BAD_LINE),
+        _ => plainly(answer::NO_ROW),
+    }
+}
+
 // `write BYTE DEC DEC DEC DEC DEC HEX`
-fn header(values: Values) -> Header {
+fn header(order: Order) -> Header {
     Header {
-        message: values.small(0),
-        ack: values.small(1) == 1,
-        sender: values.small(2),
-        receiver: values.small(3),
-        source: Address(values.large(4)),
-        destination: Address(values.large(5)),
+        message: order.small(0),
+        ack: order.small(1) == 1,
+        sender: order.small(2),
+        receiver: order.small(3),
+        source: Address(order.large(4)),
+        destination: Address(order.large(5)),
     }
 }
 
@@ -86,13 +92,7 @@ fn written(header: Header, content: &[u8]) -> Said {
     let mut buffer = [0u8; 31];
     let writing = frame::write(&mut buffer, 0, header, content);
     match writing {
-        Writing::Next(next) => with_bytes(Row::Wire, buffer, next),
+        Writing::Next(next) => with_bytes(answer::WIRE, buffer, next),
         Writing::Refused(refusal) => refused(refusal),
     }
-}
-
-// The answer.
-pub fn put_wire(heard: Heard, out: &mut [u8; 65536], at: usize) -> usize {
-    let said = heard.said;
-    put_said(out, at, said)
 }

@@ -5,10 +5,10 @@ use Rattle.bench.proofs.main.Statement.{statement}
 use Rattle.bench.proofs.main.Tie as tie
 
 abbrev Inv-loop : tie.InvT-loop
-Inv-loop node₀ groups₀ motors₀ count₀ reader₀ input₀ chunk₀ out₀ bytes₀ line₀ at₀ turns₀ node groups motors count reader input chunk out bytes line at turns = Unit {0}
+Inv-loop shown₀ groups₀ kept₀ heard₀ input₀ chunk₀ out₀ bytes₀ line₀ at₀ turns₀ shown groups kept heard input chunk out bytes line at turns = Unit {0}
 
 abbrev μ-loop : tie.MeasureT-loop
-μ-loop node₀ groups₀ motors₀ count₀ reader₀ input₀ chunk₀ out₀ bytes₀ line₀ at₀ turns₀ node groups motors count reader input chunk out bytes line at turns = turns
+μ-loop shown₀ groups₀ kept₀ heard₀ input₀ chunk₀ out₀ bytes₀ line₀ at₀ turns₀ shown groups kept heard input chunk out bytes line at turns = turns
 
 pub main-spec : {M : Type 1} → statement M
 main-spec =
@@ -25,22 +25,21 @@ main-spec =
     (λ c κs. search needs)
     (λ c κs. search needs)
     (λ c. search needs)
+    (λ c κs. search needs)
+    (λ c κs. search needs)
+    (λ c κs. search needs)
+    (λ c κs. search needs)
+    (λ c κs. search needs)
+    (λ c κs. search needs)
+    (λ c κs. search needs)
+    (λ c κs. search needs)
+    (λ c κs. search needs)
+    (λ c κs. search needs)
+    (λ c κs. search needs)
+    (λ c κs. search needs)
+    (λ c κs. search needs)
+    (λ c κs. search needs)
     (λ c. search needs)
-    (λ c κs. search needs)
-    (λ c κs. search needs)
-    (λ c. search needs)
-    (λ c κs. search needs)
-    (λ c κs. search needs)
-    (λ c κs. search needs)
-    (λ c κs. search needs)
-    (λ c κs. search needs)
-    (λ c κs. search needs)
-    (λ c κs. search needs)
-    (λ c κs. search needs)
-    (λ c κs. search needs)
-    (λ c. search needs)
-    (λ c κs. search needs)
-    (λ c κs. search needs)
     (λ c. search needs)
     (λ c. search needs)
     (λ c. search needs)

@@ -2,13 +2,11 @@
 -- Assumes nothing.
 use borrow.Author.Needs.{needs}
 use Prim.Native.Nat.{_≤_, _-_}
-use mathlib.Core.Path.{_≡_}
-use lib.ListN.{length}
 use Rattle.register_room.proofs.put_motors.Statement.{statement}
 use Rattle.register_room.proofs.put_motors.Tie as tie
 
 abbrev Inv-loop : tie.InvT-loop
-Inv-loop count out₀ at motors held behind₀ i₀ out behind i = (i ≤ held) × (length out ≡ length out₀)
+Inv-loop count out₀ at motors held behind₀ i₀ out behind i = i ≤ held
 
 abbrev μ-loop : tie.MeasureT-loop
 μ-loop count out₀ at motors held behind₀ i₀ out behind i = held - i
@@ -21,15 +19,12 @@ put-motors-spec =
     μ-loop
     (λ c κs. search needs)
     (λ c. search needs)
-    (λ c. search needs)
-    (λ c. search needs)
-    (λ c. search needs)
+    (λ c κs. search needs)
     (λ c κs. search needs)
     (λ c. search needs)
     (λ c. search needs)
     (λ c. search needs)
     (λ c κs. search needs)
-    (λ c. search needs)
     (λ c. search needs)
     (λ c. search needs)
     (λ c. search needs)

@@ -6,10 +6,10 @@ use Rattle.console.proofs.command.row_named.Statement.{statement}
 use Rattle.console.proofs.command.row_named.Tie as tie
 
 abbrev Inv-loop : tie.InvT-loop
-Inv-loop table name words count number₀ number = number ≤ count
+Inv-loop table name words number₀ number = number ≤ 16
 
 abbrev μ-loop : tie.MeasureT-loop
-μ-loop table name words count number₀ number = count - number
+μ-loop table name words number₀ number = 16 - number
 
 pub row-named-spec : {M : Type 1} → statement M
 row-named-spec =
@@ -17,7 +17,6 @@ row-named-spec =
     (tie.spec
     Inv-loop
     μ-loop
-    (λ c κs. search needs)
     (λ c. search needs)
     (λ c κs. search needs)
     (λ c κs. search needs)

@@ -1,15 +1,16 @@
--- What is left of the chunk falls.
+-- The place is within the chunk, or the loop is over.
 -- Assumes nothing.
 use borrow.Author.Needs.{needs}
 use Prim.Native.Nat.{_-_}
+use lib.ListN.{length}
 use Rattle.console.proofs.lines.take_line.Statement.{statement}
 use Rattle.console.proofs.lines.take_line.Tie as tie
 
 abbrev Inv-loop : tie.InvT-loop
-Inv-loop chunk line₀ taken₀ next₀ held₀ end line taken next held = Unit {0}
+Inv-loop input chunk line₀ next₀ held₀ ended₀ line next held ended = Unit {0}
 
 abbrev μ-loop : tie.MeasureT-loop
-μ-loop chunk line₀ taken₀ next₀ held₀ end line taken next held = end - next
+μ-loop input chunk line₀ next₀ held₀ ended₀ line next held ended = length chunk - next
 
 pub take-line-spec : {M : Type 1} → statement M
 take-line-spec =
@@ -17,13 +18,11 @@ take-line-spec =
     (tie.spec
     Inv-loop
     μ-loop
-    (λ c κs. search needs)
-    (λ c κs. search needs)
-    (λ c. search needs)
     (λ c. search needs)
     (λ c. search needs)
     (λ c. search needs)
     (λ c κs. search needs)
+    (λ c. search needs)
     (λ c. search needs)
     (λ c. search needs)
     (λ c. search needs))

@@ -2,16 +2,14 @@
 -- Assumes nothing.
 use borrow.Author.Needs.{needs}
 use Prim.Native.Nat.{_≤_, _-_}
-use mathlib.Core.Path.{_≡_}
-use lib.ListN.{length}
 use Rattle.console.proofs.rows.put_text.Statement.{statement}
 use Rattle.console.proofs.rows.put_text.Tie as tie
 
 abbrev Inv-loop : tie.InvT-loop
-Inv-loop out₀ at text place₀ i₀ out place i = (i ≤ length text) × (length out ≡ length out₀)
+Inv-loop out₀ at text numbers place₀ next₀ i₀ i-end out place next i = i ≤ i-end
 
 abbrev μ-loop : tie.MeasureT-loop
-μ-loop out₀ at text place₀ i₀ out place i = length text - i
+μ-loop out₀ at text numbers place₀ next₀ i₀ i-end out place next i = i-end - i
 
 pub put-text-spec : {M : Type 1} → statement M
 put-text-spec =
@@ -22,7 +20,8 @@ put-text-spec =
     (λ c. search needs)
     (λ c. search needs)
     (λ c κs. search needs)
-    (λ c. search needs)
+    (λ c κs. search needs)
+    (λ c κs. search needs)
     (λ c. search needs)
     (λ c. search needs)
     (λ c. search needs)

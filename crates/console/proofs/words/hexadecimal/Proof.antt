@@ -1,24 +1,25 @@
--- Sixteen slots, one after another.
+-- The place is within the word.
 -- Assumes nothing.
 use borrow.Author.Needs.{needs}
 use Prim.Native.Nat.{_≤_, _-_}
-use Rattle.board_room.proofs.state.with_favourites.Statement.{statement}
-use Rattle.board_room.proofs.state.with_favourites.Tie as tie
+use Rattle.console.proofs.words.hexadecimal.Statement.{statement}
+use Rattle.console.proofs.words.hexadecimal.Tie as tie
 
 abbrev Inv-loop : tie.InvT-loop
-Inv-loop numbers₀ slots i₀ numbers i = i ≤ 16
+Inv-loop word bytes₀ number₀ i₀ i-end bytes number i = i ≤ i-end
 
 abbrev μ-loop : tie.MeasureT-loop
-μ-loop numbers₀ slots i₀ numbers i = 16 - i
+μ-loop word bytes₀ number₀ i₀ i-end bytes number i = i-end - i
 
-pub with-favourites-spec : {M : Type 1} → statement M
-with-favourites-spec =
+pub hexadecimal-spec : {M : Type 1} → statement M
+hexadecimal-spec =
     tie.close
     (tie.spec
     Inv-loop
     μ-loop
     (λ c. search needs)
     (λ c. search needs)
+    (λ c κs. search needs)
     (λ c. search needs)
     (λ c κs. search needs)
     (λ c. search needs)

@@ -2,17 +2,17 @@
 -- Assumes nothing.
 use borrow.Author.Needs.{needs}
 use Prim.Native.Nat.{_≤_, _-_}
-use Rattle.board_room.proofs.state.with_groups.Statement.{statement}
-use Rattle.board_room.proofs.state.with_groups.Tie as tie
+use Rattle.board_room.proofs.state.addresses.Statement.{statement}
+use Rattle.board_room.proofs.state.addresses.Tie as tie
 
 abbrev Inv-loop : tie.InvT-loop
-Inv-loop groups numbers₀ i₀ numbers i = i ≤ 16
+Inv-loop groups addresses₀ i₀ addresses i = i ≤ 16
 
 abbrev μ-loop : tie.MeasureT-loop
-μ-loop groups numbers₀ i₀ numbers i = 16 - i
+μ-loop groups addresses₀ i₀ addresses i = 16 - i
 
-pub with-groups-spec : {M : Type 1} → statement M
-with-groups-spec =
+pub addresses-spec : {M : Type 1} → statement M
+addresses-spec =
     tie.close
     (tie.spec
     Inv-loop
@@ -20,11 +20,7 @@ with-groups-spec =
     (λ c. search needs)
     (λ c. search needs)
     (λ c. search needs)
-    (λ c. search needs)
-    (λ c. search needs)
-    (λ c. search needs)
     (λ c κs. search needs)
-    (λ c. search needs)
     (λ c. search needs)
     (λ c. search needs)
     (λ c. search needs)

@@ -1,15 +1,15 @@
--- The place is within the text.
+-- The place is within the line.
 -- Assumes nothing.
 use borrow.Author.Needs.{needs}
 use Prim.Native.Nat.{_≤_, _-_}
-use Rattle.console.proofs.parts.parts.Statement.{statement}
-use Rattle.console.proofs.parts.parts.Tie as tie
+use Rattle.console.proofs.words.parts.Statement.{statement}
+use Rattle.console.proofs.words.parts.Tie as tie
 
 abbrev Inv-loop : tie.InvT-loop
-Inv-loop text separator count₀ i₀ i-end count i = i ≤ i-end
+Inv-loop line count₀ i₀ i-end count i = i ≤ i-end
 
 abbrev μ-loop : tie.MeasureT-loop
-μ-loop text separator count₀ i₀ i-end count i = i-end - i
+μ-loop line count₀ i₀ i-end count i = i-end - i
 
 pub parts-spec : {M : Type 1} → statement M
 parts-spec =
