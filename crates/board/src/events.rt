@@ -33,14 +33,12 @@ pub fn at_pulse(node: Node, pulse: Pulse) -> After
     ensures { λ r. ⌜ r ≡ afterPulse node pulse ⌝ }
 {
     if !node.is_sound() {
-        return refused(node, Refusal::BrokenNode);
+        return broken(node);
     }
     if pulse.0 > node.settings.travel.0 {
         return refused(node, Refusal::BeyondTravel);
     }
-    let drive = node.drive;
-    let drive = drive.at_pulse(pulse);
-    done(node.with_drive(drive))
+    done(node.with_drive(node.drive.at_pulse(pulse)))
 }
 
 // The motor has been blocked, by 20h, 21h or 22h.
@@ -48,39 +46,31 @@ pub fn blocked(node: Node, cause: u8) -> After
     ensures { λ r. ⌜ r ≡ afterBlocked node cause ⌝ }
 {
     if !node.is_sound() {
-        return refused(node, Refusal::BrokenNode);
+        return broken(node);
     }
     if !blocks(cause) {
         return refused(node, Refusal::NotBlocking);
     }
-    let drive = node.drive;
-    let drive = drive.blocked_by(cause);
-    done(node.with_drive(drive))
+    done(node.with_drive(node.drive.blocked_by(cause)))
 }
 
 pub fn cleared(node: Node) -> After
     ensures { λ r. ⌜ r ≡ afterCleared node ⌝ }
 {
     if !node.is_sound() {
-        return refused(node, Refusal::BrokenNode);
+        return broken(node);
     }
-    let drive = node.drive;
-    let drive = drive.unblocked();
-    done(node.with_drive(drive))
+    done(node.with_drive(node.drive.unblocked()))
 }
 
 pub fn power_up(node: Node) -> After
     ensures { λ r. ⌜ r ≡ afterPowerUp node ⌝ }
 {
     if !node.is_sound() {
-        return refused(node, Refusal::BrokenNode);
+        return broken(node);
     }
-    let drive = node.drive;
-    let drive = drive.powered_up();
-    let lock = node.lock;
-    let lock = lock.over_power_up();
-    let driven = node.with_drive(drive);
-    done(driven.with_lock(lock))
+    let driven = node.with_drive(node.drive.powered_up());
+    done(driven.with_lock(node.lock.over_power_up()))
 }
 
 fn done(node: Node) -> After
@@ -90,6 +80,13 @@ fn done(node: Node) -> After
         node,
         verdict: Verdict::Done,
     }
+}
+
+// Row 33.
+fn broken(node: Node) -> After
+    ensures { λ r. ⌜ r ≡ refusedBy node Refusal.BrokenNode ⌝ }
+{
+    refused(node, Refusal::BrokenNode)
 }
 
 fn refused(node: Node, refusal: Refusal) -> After

@@ -20,8 +20,7 @@ impl Settings {
     pub fn in_range(self) -> bool
         ensures { λ r. ⌜ r ≡ inRange self ⌝ }
     {
-        let id = self.id;
-        if !id.is_node_id() {
+        if !self.id.is_node_id() {
             return false;
         }
         if self.kind < 1 {
@@ -33,7 +32,6 @@ impl Settings {
         if self.travel.0 < 100 {
             return false;
         }
-        let plate = self.plate;
-        plate.in_range()
+        self.plate.in_range()
     }
 }

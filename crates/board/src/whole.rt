@@ -39,21 +39,16 @@ impl Node {
     pub fn is_sound(self) -> bool
         ensures { λ r. ⌜ r ≡ sound self ⌝ }
     {
-        let settings = self.settings;
-        let drive = self.drive;
-        let favourites = self.favourites;
-        let lock = self.lock;
-        let travel = settings.travel;
-        if !settings.in_range() {
+        if !self.settings.in_range() {
             return false;
         }
-        if !drive.within(travel) {
+        if !self.drive.within(self.settings.travel) {
             return false;
         }
-        if !favourites.within(travel) {
+        if !self.favourites.within(self.settings.travel) {
             return false;
         }
-        if lock.holder.0 > 0xFF_FFFF {
+        if self.lock.holder.0 > 0xFF_FFFF {
             return false;
         }
         let label = self.label;
@@ -69,8 +64,7 @@ impl Node {
         if self.drive.blocked {
             return 2;
         }
-        let drive = self.drive;
-        if drive.is_running() {
+        if self.drive.is_running() {
             return 1;
         }
         0

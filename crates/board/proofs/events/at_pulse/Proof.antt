@@ -13,23 +13,23 @@ returns : tie.Need-returns
 returns c =
     let b = c .before .before in
     let x = b .before .args in
-    c .refused .ensures ∙ sym (pulse-at (x .node) 0 (x .pulse) (found-false (b .is-sound .ensures) (c .before .if1 .taken)))
+    c .broken .ensures ∙ sym (pulse-at (x .node) 0 (x .pulse) (found-false (b .is-sound .ensures) (c .before .if1 .taken)))
 
 returns-2 : tie.Need-returns-2
 returns-2 c =
     let b = c .before .before .before .before in
     let x = b .before .before .args in
-    c .refused2 .ensures
+    c .refused .ensures
     ∙ sym (pulse-at (x .node) 1 (x .pulse) (found-true (b .before .is-sound .ensures) (b .if1 .left), c .before .if2 .taken))
 
 returns-3 : tie.Need-returns-3
 returns-3 c =
-    let b = c .before .before .before .before .before .before .before in
+    let within = c .before .before .before in
+    let b = within .before .before .before in
     let x = b .before .before .args in
     c .done .ensures
     ∙ ap done (c .before .with-drive .ensures ∙ ap (withDrive (x .node)) (c .before .before .at-pulse .ensures))
-    ∙ sym (pulse-at (x .node) 2 (x .pulse)
-    (found-true (b .before .is-sound .ensures) (b .if1 .left), (c .before .before .before .before .if2 .left, tt)))
+    ∙ sym (pulse-at (x .node) 2 (x .pulse) (found-true (b .before .is-sound .ensures) (b .if1 .left), (within .if2 .left, tt)))
 
 pub at-pulse-spec : {M : Type 1} → statement M
 at-pulse-spec =

@@ -13,26 +13,26 @@ returns : tie.Need-returns
 returns c =
     let b = c .before .before in
     let x = b .before .args in
-    c .refused .ensures ∙ sym (blocked-at (x .node) 0 (x .cause) (found-false (b .is-sound .ensures) (c .before .if1 .taken)))
+    c .broken .ensures ∙ sym (blocked-at (x .node) 0 (x .cause) (found-false (b .is-sound .ensures) (c .before .if1 .taken)))
 
 returns-2 : tie.Need-returns-2
 returns-2 c =
     let k = c .before .before in
     let b = k .before in
     let x = b .before .before .args in
-    c .refused2 .ensures
+    c .refused .ensures
     ∙ sym (blocked-at (x .node) 1 (x .cause)
     (found-true (b .before .is-sound .ensures) (b .if1 .left), found-false (k .blocks2 .ensures) (c .before .if2 .taken)))
 
 returns-3 : tie.Need-returns-3
 returns-3 c =
-    let k = c .before .before .before .before .before in
+    let k = c .before .before .before .before in
     let b = k .before in
     let x = b .before .before .args in
     c .done .ensures
     ∙ ap done (c .before .with-drive .ensures ∙ ap (withDrive (x .node)) (c .before .before .blocked-by .ensures))
     ∙ sym (blocked-at (x .node) 2 (x .cause)
-    (found-true (b .before .is-sound .ensures) (b .if1 .left), (found-true (k .blocks2 .ensures) (c .before .before .before .before .if2 .left), tt)))
+    (found-true (b .before .is-sound .ensures) (b .if1 .left), (found-true (k .blocks2 .ensures) (c .before .before .before .if2 .left), tt)))
 
 pub blocked-spec : {M : Type 1} → statement M
 blocked-spec =

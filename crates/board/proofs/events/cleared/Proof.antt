@@ -13,11 +13,11 @@ returns : tie.Need-returns
 returns c =
     let b = c .before .before in
     let x = b .before .args in
-    c .refused .ensures ∙ sym (cleared-at (x .node) 0 (found-false (b .is-sound .ensures) (c .before .if1 .taken)))
+    c .broken .ensures ∙ sym (cleared-at (x .node) 0 (found-false (b .is-sound .ensures) (c .before .if1 .taken)))
 
 returns-2 : tie.Need-returns-2
 returns-2 c =
-    let b = c .before .before .before .before in
+    let b = c .before .before .before in
     let x = b .before .before .args in
     c .done .ensures
     ∙ ap done (c .before .with-drive .ensures ∙ ap (withDrive (x .node)) (c .before .before .unblocked .ensures))

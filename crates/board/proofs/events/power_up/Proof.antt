@@ -13,16 +13,17 @@ returns : tie.Need-returns
 returns c =
     let b = c .before .before in
     let x = b .before .args in
-    c .refused .ensures ∙ sym (power-up-at (x .node) 0 (found-false (b .is-sound .ensures) (c .before .if1 .taken)))
+    c .broken .ensures ∙ sym (power-up-at (x .node) 0 (found-false (b .is-sound .ensures) (c .before .if1 .taken)))
 
 returns-2 : tie.Need-returns-2
 returns-2 c =
-    let b = c .before .before .before .before .before .before .before in
+    let driven = c .before .before .before in
+    let b = driven .before .before in
     let x = b .before .before .args in
     c .done .ensures
     ∙ ap done (c .before .with-lock .ensures ∙ ap₂ withLock
-    (c .before .before .with-drive .ensures ∙ ap (withDrive (x .node)) (c .before .before .before .before .before .powered-up .ensures))
-    (c .before .before .before .over-power-up .ensures))
+    (driven .with-drive .ensures ∙ ap (withDrive (x .node)) (driven .before .powered-up .ensures))
+    (c .before .before .over-power-up .ensures))
     ∙ sym (power-up-at (x .node) 1 (found-true (b .before .is-sound .ensures) (b .if1 .left), tt))
 
 pub power-up-spec : {M : Type 1} → statement M

@@ -31,7 +31,7 @@ returns-4 c =
 
 returns-5 : tie.Need-returns-5
 returns-5 c =
-    let last = c .before .before in
+    let last = c .before in
     let i = last .before .before .before .before .before .before in
     rw (
       found-true (i .before .is-node-id .ensures) (i .if1 .left),

@@ -10,16 +10,14 @@ use Rattle.board.proofs.whole.Node.is_sound.Tie as tie
 
 returns : tie.Need-returns
 returns c =
-    let b = c .before in
-    let n = b .before .before .before .before .before .before .args .self in
-    sym (by-settings n (found-false (b .in-range .ensures) (c .if1 .taken)))
+    let a = c .before in
+    sym (by-settings (a .before .args .self) (found-false (a .in-range .ensures) (c .if1 .taken)))
 
 returns-2 : tie.Need-returns-2
 returns-2 c =
     let b = c .before in
     let a = b .before .before in
-    let n = a .before .before .before .before .before .before .args .self in
-    sym (by-drive n
+    sym (by-drive (a .before .args .self)
     (found-true (a .in-range .ensures) (b .before .if1 .left))
     (found-false (b .within .ensures) (c .if2 .taken)))
 
@@ -28,8 +26,7 @@ returns-3 c =
     let e = c .before in
     let b = e .before .before in
     let a = b .before .before in
-    let n = a .before .before .before .before .before .before .args .self in
-    sym (by-ips n
+    sym (by-ips (a .before .args .self)
     (found-true (a .in-range .ensures) (b .before .if1 .left))
     (found-true (b .within .ensures) (e .before .if2 .left))
     (found-false (e .within2 .ensures) (c .if3 .taken)))
@@ -39,8 +36,7 @@ returns-4 c =
     let e = c .before .before .before in
     let b = e .before .before in
     let a = b .before .before in
-    let n = a .before .before .before .before .before .before .args .self in
-    sym (by-holder n
+    sym (by-holder (a .before .args .self)
     (found-true (a .in-range .ensures) (b .before .if1 .left))
     (found-true (b .within .ensures) (e .before .if2 .left))
     (found-true (e .within2 .ensures) (c .before .before .if3 .left))
@@ -52,9 +48,8 @@ returns-5 c =
     let e = held .before .before .before in
     let b = e .before .before in
     let a = b .before .before in
-    let n = a .before .before .before .before .before .before .args .self in
     c .is-label .ensures
-    ∙ sym (by-label n
+    ∙ sym (by-label (a .before .args .self)
     (found-true (a .in-range .ensures) (b .before .if1 .left))
     (found-true (b .within .ensures) (e .before .if2 .left))
     (found-true (e .within2 .ensures) (held .before .before .if3 .left))
