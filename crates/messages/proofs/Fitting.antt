@@ -15,11 +15,11 @@ use Rattle.travel.specs.Position.{pulseOfPercent}
 use Rattle.board.specs.Drive.{halted, movedTo}
 use Rattle.board.specs.Favourites.{pulseOf}
 use Rattle.board.specs.Groups.{Groups}
-use Rattle.board.specs.Lock.{locked, unlocked, saving}
 use Rattle.board.specs.Node.{withDrive, withLabel}
 use Rattle.board.specs.Typed.{Typed}
 use Rattle.board.specs.declared.favourites.Ip.the-variants.{Unset, At}
 use Rattle.board.specs.declared.groups.Change.the-variants.{Keep, Put}
+use Rattle.board.specs.declared.lock.Lock.{Lock}
 use Rattle.board.specs.declared.whole.Node.{Node}
 use Rattle.board.proofs.Fitting.{
   drive-fits,
@@ -41,7 +41,7 @@ use Rattle.messages.specs.Fields.{byteAt}
 use Rattle.messages.specs.Outcome.{acts, posts, refusals, refusing}
 use Rattle.messages.specs.Motor.{stopCodes, stopped, stopRow, aimIn, targetOf, moveCodes, moved, moveRow, positionRow, statusRow}
 use Rattle.messages.specs.Ips.{orderIn, ordered, setIpCodes, keepingIps, setIpRow, ipCodes, ipData, ipRow}
-use Rattle.messages.specs.Locking.{setLockCodes, lockedBy, setLockRow, lockRow}
+use Rattle.messages.specs.Locking.{setLockCodes, lockBy, lockedBy, setLockRow, lockRow}
 use Rattle.messages.specs.Addresses.{addressRow, groupCodes, groupData, groupRow, setGroupRow}
 use Rattle.messages.specs.Identity.{labelIn, labelRow, setLabelCodes, setLabelRow, versionRow, serialRow}
 use Rattle.messages.specs.Table.{outcomeOf}
@@ -88,15 +88,22 @@ module _ (n : Node) (t : Typed n) (d : List ℕ) (bytes : (place : ℕ) → byte
       or-fitting (setIpCodes n d (orderIn d)) (keepingIps n f)
       (λ p. record { node-fits = favourites-kept-typed n t f (ordered-sixteen (orderIn d)); change-fits = tt })
 
+  abbrev Priority : Lock → Type 0
+  Priority l = l .priority < 256
+
+  lock-by-fits : (source : Address) (function : ℕ) → Priority (lockBy (n .lock) source function (byteAt d 1))
+  lock-by-fits source function =
+      either Priority (eqb function 0) (λ e. omega arith) λ e.
+      either Priority (eqb function 1) (λ e. bytes 1) λ e.
+      either Priority (eqb function 3) (λ e. t .priority-fits) (λ e. t .priority-fits)
+
   locked-by-fits : (source : Address) (function : ℕ) → Typed (lockedBy n source function (byteAt d 1))
   locked-by-fits source function =
       let still = drive-kept-typed n t (halted (n .drive)) (halted-fits (n .drive) (drive-fits n t)) in
-      either Typed (eqb function 0) (λ e. lock-kept-typed n t (unlocked (n .lock)) (omega arith)) λ e.
+      let lock = lockBy (n .lock) source function (byteAt d 1) in
       either Typed (eqb function 1)
-      (λ e. lock-kept-typed (withDrive n (halted (n .drive))) still (locked (n .lock) source (byteAt d 1)) (bytes 1)) λ e.
-      either Typed (eqb function 3)
-      (λ e. lock-kept-typed n t (saving (n .lock) true) (t .priority-fits))
-      (λ e. lock-kept-typed n t (saving (n .lock) false) (t .priority-fits))
+      (λ e. lock-kept-typed (withDrive n (halted (n .drive))) still lock (lock-by-fits source function))
+      (λ e. lock-kept-typed n t lock (lock-by-fits source function))
 
   set-lock-fits : (source : Address) → Fitting (setLockRow n source d)
   unfolding setLockRow

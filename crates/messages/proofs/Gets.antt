@@ -29,7 +29,7 @@ use Rattle.messages.specs.Table.{
   get-serial,
   outcomeOf,
 }
-use Rattle.messages.proofs.Messages.{at-0C, at-0E, at-25, at-26, at-40, at-41, at-45, at-74, at-4C, or-refused}
+use Rattle.messages.proofs.Messages.{at-row, or-refused}
 
 -- Neither the node nor the group table is changed.
 pub record Idle (n : Node) (o : Outcome) : Type 0 where
@@ -56,15 +56,15 @@ module _ (n : Node) (groups : Groups) (source : Address) (d : List ℕ) where
 
   by-message : (m k : ℕ) → m ≡ k → Get k → Idle n (outcomeOf n groups source m d)
   unfolding positionRow statusRow lockRow addressRow labelRow versionRow serialRow
-  by-message m k e get-position = idle-at m (at-0C n groups source m d e) (record { node-kept = refl; table-kept = refl })
-  by-message m k e get-status = idle-at m (at-0E n groups source m d e) (record { node-kept = refl; table-kept = refl })
-  by-message m k e get-ip = idle-at m (at-25 n groups source m d e) (ip-idle n groups d)
-  by-message m k e get-lock = idle-at m (at-26 n groups source m d e) (record { node-kept = refl; table-kept = refl })
-  by-message m k e get-address = idle-at m (at-40 n groups source m d e) (record { node-kept = refl; table-kept = refl })
-  by-message m k e get-group = idle-at m (at-41 n groups source m d e) (group-idle n groups d)
-  by-message m k e get-label = idle-at m (at-45 n groups source m d e) (record { node-kept = refl; table-kept = refl })
-  by-message m k e get-version = idle-at m (at-74 n groups source m d e) (record { node-kept = refl; table-kept = refl })
-  by-message m k e get-serial = idle-at m (at-4C n groups source m d e) (record { node-kept = refl; table-kept = refl })
+  by-message m k e get-position = idle-at m (at-row n groups source m d 0x0C e) (record { node-kept = refl; table-kept = refl })
+  by-message m k e get-status = idle-at m (at-row n groups source m d 0x0E e) (record { node-kept = refl; table-kept = refl })
+  by-message m k e get-ip = idle-at m (at-row n groups source m d 0x25 e) (ip-idle n groups d)
+  by-message m k e get-lock = idle-at m (at-row n groups source m d 0x26 e) (record { node-kept = refl; table-kept = refl })
+  by-message m k e get-address = idle-at m (at-row n groups source m d 0x40 e) (record { node-kept = refl; table-kept = refl })
+  by-message m k e get-group = idle-at m (at-row n groups source m d 0x41 e) (group-idle n groups d)
+  by-message m k e get-label = idle-at m (at-row n groups source m d 0x45 e) (record { node-kept = refl; table-kept = refl })
+  by-message m k e get-version = idle-at m (at-row n groups source m d 0x74 e) (record { node-kept = refl; table-kept = refl })
+  by-message m k e get-serial = idle-at m (at-row n groups source m d 0x4C e) (record { node-kept = refl; table-kept = refl })
 
   pub a-get-is-idle : (m : ℕ) → Get m → Idle n (outcomeOf n groups source m d)
   a-get-is-idle m g = by-message m m refl g

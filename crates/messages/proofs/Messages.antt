@@ -1,9 +1,9 @@
 -- The message table at each message; and what holds of every row holds of whatever a message comes to.
 -- Assumes nothing.
 use Prim.Native.Nat.{ℕ}
-use mathlib.Core.Path.{_≡_}
+use mathlib.Core.Path.{_≡_, ap}
 use mathlib.Core.List.{List, [], _∷_}
-use Rattle.meaning.specs.Tables.{Row, _when_, Answers, Passed, of-decided, no-row-applies}
+use Rattle.meaning.specs.Tables.{Row, _when_, decide, Answers, Passed, of-decided, no-row-applies}
 use Rattle.frame.specs.declared.address.Address.{Address}
 use Rattle.board.specs.Groups.{Groups}
 use Rattle.board.specs.declared.whole.Node.{Node}
@@ -18,65 +18,10 @@ use Rattle.messages.specs.Identity.{labelRow, setLabelRow, versionRow, s
 use Rattle.messages.specs.Table.{messageRows, outcomeOf}
 
 module _ (n : Node) (groups : Groups) (source : Address) (m : ℕ) (d : List ℕ) where
-  pub at-02 : m ≡ 0x02 → outcomeOf n groups source m d ≡ stopRow n d
+  -- A message leads to its row.
+  pub at-row : (k : ℕ) → m ≡ k → outcomeOf n groups source m d ≡ decide (messageRows n groups source k d) (refuses n Code.UnknownMessage)
   unfolding outcomeOf
-  at-02 e = rw e
-
-  pub at-03 : m ≡ 0x03 → outcomeOf n groups source m d ≡ moveRow n d
-  unfolding outcomeOf
-  at-03 e = rw e
-
-  pub at-0C : m ≡ 0x0C → outcomeOf n groups source m d ≡ positionRow n
-  unfolding outcomeOf
-  at-0C e = rw e
-
-  pub at-0E : m ≡ 0x0E → outcomeOf n groups source m d ≡ statusRow n
-  unfolding outcomeOf
-  at-0E e = rw e
-
-  pub at-15 : m ≡ 0x15 → outcomeOf n groups source m d ≡ setIpRow n d
-  unfolding outcomeOf
-  at-15 e = rw e
-
-  pub at-25 : m ≡ 0x25 → outcomeOf n groups source m d ≡ ipRow n d
-  unfolding outcomeOf
-  at-25 e = rw e
-
-  pub at-16 : m ≡ 0x16 → outcomeOf n groups source m d ≡ setLockRow n source d
-  unfolding outcomeOf
-  at-16 e = rw e
-
-  pub at-26 : m ≡ 0x26 → outcomeOf n groups source m d ≡ lockRow n
-  unfolding outcomeOf
-  at-26 e = rw e
-
-  pub at-40 : m ≡ 0x40 → outcomeOf n groups source m d ≡ addressRow n
-  unfolding outcomeOf
-  at-40 e = rw e
-
-  pub at-41 : m ≡ 0x41 → outcomeOf n groups source m d ≡ groupRow n groups d
-  unfolding outcomeOf
-  at-41 e = rw e
-
-  pub at-51 : m ≡ 0x51 → outcomeOf n groups source m d ≡ setGroupRow n d
-  unfolding outcomeOf
-  at-51 e = rw e
-
-  pub at-45 : m ≡ 0x45 → outcomeOf n groups source m d ≡ labelRow n
-  unfolding outcomeOf
-  at-45 e = rw e
-
-  pub at-55 : m ≡ 0x55 → outcomeOf n groups source m d ≡ setLabelRow n d
-  unfolding outcomeOf
-  at-55 e = rw e
-
-  pub at-74 : m ≡ 0x74 → outcomeOf n groups source m d ≡ versionRow n
-  unfolding outcomeOf
-  at-74 e = rw e
-
-  pub at-4C : m ≡ 0x4C → outcomeOf n groups source m d ≡ serialRow n
-  unfolding outcomeOf
-  at-4C e = rw e
+  at-row k e = ap (λ (j : ℕ). decide (messageRows n groups source j d) (refuses n Code.UnknownMessage)) e
 
   pub at-no-row : Passed (messageRows n groups source m d) → outcomeOf n groups source m d ≡ refuses n Code.UnknownMessage
   unfolding outcomeOf

@@ -1,34 +1,32 @@
 -- Each row of the message table where so many of its codes are passed over: the next code refuses, or none is left and it is carried out.
 -- Assumes nothing.
 use Prim.Native.Nat.{ℕ, _<_, _≤_}
-use mathlib.Core.Path.{_≡_}
-use mathlib.Core.Bool.{Bool, true, false, not}
+use mathlib.Core.Path.{_≡_, _∙_, sym}
+use mathlib.Core.Bool.{Bool, true, false}
 use mathlib.Core.List.{List}
-use borrow.Author.Tests.{leb-true, leb-false}
 use lib.ListN.{length}
-use Rattle.meaning.specs.Chosen.{found-false, found-true}
 use Rattle.meaning.specs.Tables.{Applies, answerAt, decided}
 use Rattle.frame.specs.declared.address.Address.{Address}
 use Rattle.travel.specs.Units.{ip}
 use Rattle.board.specs.Groups.{Groups}
 use Rattle.board.specs.Node.{withLabel}
-use Rattle.board.specs.declared.groups.Change.the-variants.{Keep, Put}
+use Rattle.board.specs.declared.groups.Change.the-variants.{Keep}
 use Rattle.board.specs.declared.whole.Node.{Node}
-use Rattle.messages.specs.Fields.{byteAt, holds}
+use Rattle.messages.specs.Fields.{byteAt, shorterThan}
 use Rattle.messages.specs.Outcome.{acts, posts, refusals}
 use Rattle.messages.specs.Motor.{stopCodes, stopped, stopRow, aimIn, targetOf, moveCodes, moved, moveRow}
 use Rattle.messages.specs.Ips.{orderIn, ordered, setIpCodes, keepingIps, setIpRow, ipCodes, ipData, ipRow}
 use Rattle.messages.specs.Locking.{setLockCodes, lockedBy, setLockRow}
-use Rattle.messages.specs.Addresses.{groupCodes, groupData, groupRow, setGroupRow}
+use Rattle.messages.specs.Addresses.{groupCodes, groupData, groupRow, putIn, setGroupRow}
 use Rattle.messages.specs.Identity.{labelIn, setLabelCodes, setLabelRow}
 
 -- 11h, from the test as the code asks it.
-module _ (least : ℕ) (d : List ℕ) {asked : Bool} (e : asked ≡ holds least d) where
-  pub too-little : not asked ≡ true → length d < least
-  too-little n = leb-false least (length d) (found-false e n)
+module _ (least : ℕ) (d : List ℕ) {asked : Bool} (e : asked ≡ shorterThan least d .holds) where
+  pub too-little : asked ≡ true → length d < least
+  too-little n = shorterThan least d .is-fact (sym e ∙ n)
 
-  pub enough : not asked ≡ false → least ≤ length d
-  enough n = leb-true least (length d) (found-true e n)
+  pub enough : asked ≡ false → least ≤ length d
+  enough n = shorterThan least d .is-other (sym e ∙ n)
 
 module _ (n : Node) (d : List ℕ) (passed : ℕ) where
   pub stop-at : Applies passed (refusals n (stopCodes n d)) → stopRow n d ≡ answerAt passed (refusals n (stopCodes n d)) (stopped n)
@@ -64,9 +62,9 @@ module _ (n : Node) (d : List ℕ) (passed : ℕ) where
 
   pub set-group-at : Applies passed (refusals n (groupCodes 4 d (byteAt d 0)))
       → setGroupRow n d
-      ≡ answerAt passed (refusals n (groupCodes 4 d (byteAt d 0))) (acts n (Put (byteAt d 0) (byteAt d 1) (byteAt d 2) (byteAt d 3)))
+      ≡ answerAt passed (refusals n (groupCodes 4 d (byteAt d 0))) (acts n (putIn (byteAt d 0) d))
   unfolding setGroupRow
-  set-group-at = decided passed (refusals n (groupCodes 4 d (byteAt d 0))) (acts n (Put (byteAt d 0) (byteAt d 1) (byteAt d 2) (byteAt d 3)))
+  set-group-at = decided passed (refusals n (groupCodes 4 d (byteAt d 0))) (acts n (putIn (byteAt d 0) d))
 
   pub set-label-at : Applies passed (refusals n (setLabelCodes d))
       → setLabelRow n d ≡ answerAt passed (refusals n (setLabelCodes d)) (acts (withLabel n (labelIn d)) Keep)

@@ -17,7 +17,6 @@ use Rattle.travel.specs.declared.Pulse.{Pulse}
 use Rattle.board.specs.Drive.{halted, movedTo, driveWithin}
 use Rattle.board.specs.Favourites.{pulseOf, withIp, sharedOut, ipWithin, ipsWithin}
 use Rattle.board.specs.Groups.{Groups}
-use Rattle.board.specs.Lock.{locked, unlocked, saving}
 use Rattle.board.specs.Node.{sound, withDrive, withFavourites, withLock, withLabel}
 use Rattle.board.specs.declared.drive.Drive.{Drive}
 use Rattle.board.specs.declared.favourites.Favourites.{Favourites}
@@ -39,7 +38,7 @@ use Rattle.messages.specs.Fields.{byteAt}
 use Rattle.messages.specs.Outcome.{acts, posts, refuses, refusals, refusing}
 use Rattle.messages.specs.Motor.{stopCodes, stopped, stopRow, aimIn, targetOf, moveCodes, moved, moveRow, positionRow, statusRow}
 use Rattle.messages.specs.Ips.{orderIn, ordered, setIpCodes, keepingIps, setIpRow, ipCodes, ipData, ipRow}
-use Rattle.messages.specs.Locking.{setLockCodes, lockedBy, setLockRow, lockRow}
+use Rattle.messages.specs.Locking.{setLockCodes, lockBy, lockedBy, setLockRow, lockRow}
 use Rattle.messages.specs.Addresses.{addressRow, groupCodes, groupData, groupRow, setGroupRow}
 use Rattle.messages.specs.Identity.{labelIn, labelRow, setLabelCodes, setLabelRow, versionRow, serialRow}
 use Rattle.messages.specs.Table.{outcomeOf}
@@ -131,14 +130,23 @@ module _ (n : Node) (s : sound n ≡ true) where
   abbrev Kept : Node → Type 0
   Kept m = Carried n m Keep
 
+  abbrev Holder : Lock → Type 0
+  Holder l = l .holder .0 ≤ 0xFFFFFF
+
+  lock-by-holder : (source : Address) (function priority : ℕ) → source .0 ≤ 0xFFFFFF → Holder (lockBy (n .lock) source function priority)
+  lock-by-holder source function priority h =
+      let holder = parts-of n s .holder-is-an-address in
+      either Holder (eqb function 0) (λ e. omega arith) λ e.
+      either Holder (eqb function 1) (λ e. h) λ e.
+      either Holder (eqb function 3) (λ e. holder) (λ e. holder)
+
   locked-by-safe : (source : Address) (function priority : ℕ) → source .0 ≤ 0xFFFFFF → Kept (lockedBy n source function priority)
   locked-by-safe source function priority h =
-      let holder = parts-of n s .holder-is-an-address in
       let still = driven (halted (n .drive)) (halted-within travel (n .drive) drive-within) in
-      either Kept (eqb function 0) (λ e. relocked n s refl (unlocked (n .lock)) (omega arith)) λ e.
+      let lock = lockBy (n .lock) source function priority in
       either Kept (eqb function 1)
-      (λ e. relocked (withDrive n (halted (n .drive))) (still .still-sound) refl (locked (n .lock) source priority) h) λ e.
-      either Kept (eqb function 3) (λ e. relocked n s refl (saving (n .lock) true) holder) (λ e. relocked n s refl (saving (n .lock) false) holder)
+      (λ e. relocked (withDrive n (halted (n .drive))) (still .still-sound) refl lock (lock-by-holder source function priority h))
+      (λ e. relocked n s refl lock (lock-by-holder source function priority h))
 
   set-lock-safe : (source : Address) (d : List ℕ) → source .0 ≤ 0xFFFFFF → Safe n (setLockRow n source d)
   unfolding setLockRow

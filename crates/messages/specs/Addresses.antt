@@ -6,6 +6,7 @@ use lib.ListN.{getD}
 use Rattle.meaning.specs.Tables.{Row, _when_}
 use Rattle.meaning.specs.Tests.{_above_}
 use Rattle.board.specs.Groups.{Groups}
+use Rattle.board.specs.declared.groups.Change.{Change}
 use Rattle.board.specs.declared.groups.Change.the-variants.{Put}
 use Rattle.board.specs.declared.whole.Node.{Node}
 use Rattle.messages.specs.Fields.{byteAt, shorterThan}
@@ -34,6 +35,8 @@ unfoldable pub groupRow : Node → Groups → List ℕ → Outcome
 groupRow n groups d = refusing n (groupCodes 1 d (byteAt d 0)) (posts n 0x61 (groupData groups (byteAt d 0)))
 
 -- 51h SET_GROUP_ADDR, 4: index, group 24: store, any value.
+abbrev pub putIn : (index : ℕ) → List ℕ → Change
+putIn index d = Put index (byteAt d 1) (byteAt d 2) (byteAt d 3)
+
 unfoldable pub setGroupRow : Node → List ℕ → Outcome
-setGroupRow n d =
-    refusing n (groupCodes 4 d (byteAt d 0)) (acts n (Put (byteAt d 0) (byteAt d 1) (byteAt d 2) (byteAt d 3)))
+setGroupRow n d = refusing n (groupCodes 4 d (byteAt d 0)) (acts n (putIn (byteAt d 0) d))

@@ -3,16 +3,12 @@
 use Prim.Native.Nat.{ℕ}
 use mathlib.Core.Bool.{Bool}
 use mathlib.Core.List.{List}
-use lib.Dec.{leb}
 use lib.ListN.{length, getD}
 use Rattle.meaning.specs.Choice.{if_then_else_}
 use Rattle.meaning.specs.Tests.{Test, _below_}
 
 abbrev pub byteAt : List ℕ → ℕ → ℕ
 byteAt content place = getD content place 0
-
-abbrev pub holds : (least : ℕ) → List ℕ → Bool
-holds least content = leb least (length content)
 
 -- 11h: DATA is shorter than the table's "at least".
 abbrev pub shorterThan : (least : ℕ) → List ℕ → Test

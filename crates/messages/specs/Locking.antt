@@ -14,6 +14,7 @@ use Rattle.board.specs.Drive.{halted}
 use Rattle.board.specs.Lock.{admits, locked, unlocked, saving}
 use Rattle.board.specs.Node.{withDrive, withLock}
 use Rattle.board.specs.declared.groups.Change.the-variants.{Keep}
+use Rattle.board.specs.declared.lock.Lock.{Lock}
 use Rattle.board.specs.declared.whole.Node.{Node}
 use Rattle.messages.specs.Fields.{byteAt, shorterThan, bit}
 use Rattle.messages.specs.Outcome.{acts, posts, refusing}
@@ -33,13 +34,19 @@ setLockCodes n d function priority =
     ∷ Code.PriorityTooLow when (function at-most 1) and (fails (admits (n .lock) priority))
     ∷ []
 
--- Lock records SOURCE and priority and stops a running motor as STOP does. Unlock zeroes both.
+-- Lock records SOURCE and priority. Unlock zeroes both.
+abbrev pub lockBy : Lock → Address → (function priority : ℕ) → Lock
+lockBy lock source function priority =
+    if eqb function 0 then unlocked lock else
+    if eqb function 1 then locked lock source priority else
+    if eqb function 3 then saving lock true else
+    saving lock false
+
+-- A lock stops a running motor as STOP does.
 abbrev pub lockedBy : Node → Address → (function priority : ℕ) → Node
 lockedBy n source function priority =
-    if eqb function 0 then withLock n (unlocked (n .lock)) else
-    if eqb function 1 then withLock (withDrive n (halted (n .drive))) (locked (n .lock) source priority) else
-    if eqb function 3 then withLock n (saving (n .lock) true) else
-    withLock n (saving (n .lock) false)
+    if eqb function 1 then withLock (withDrive n (halted (n .drive))) (lockBy (n .lock) source function priority) else
+    withLock n (lockBy (n .lock) source function priority)
 
 unfoldable pub setLockRow : Node → Address → List ℕ → Outcome
 setLockRow n source d =

@@ -37,14 +37,21 @@ stopped n = acts (withDrive n (halted (n .drive))) Keep
 unfoldable pub stopRow : Node → List ℕ → Outcome
 stopRow n d = refusing n (stopCodes n d) (stopped n)
 
--- MOVETO: 0 down, 1 up (position ignored); 2 to IP, position 0..15 naming IP position + 1; 4 percent 0..100. Others
--- 01h.
+-- MOVETO function 2, to IP: position 0..15 naming IP position + 1.
+abbrev pub toIp : (position : ℕ) → Aim
+toIp position = if leb position 15 then ToIp (ip (position + 1)) else Nowhere
+
+-- Function 4: percent 0..100.
+abbrev pub toPercent : (position : ℕ) → Aim
+toPercent position = if leb position 100 then ToPercent (percent position) else Nowhere
+
+-- 0 down, 1 up (position ignored); 2 to IP; 4 percent. Others 01h.
 abbrev pub aimOf : (function position : ℕ) → Aim
 aimOf function position =
     if eqb function 0 then Down else
     if eqb function 1 then Up else
-    if eqb function 2 then (if leb position 15 then ToIp (ip (position + 1)) else Nowhere) else
-    if eqb function 4 then (if leb position 100 then ToPercent (percent position) else Nowhere) else
+    if eqb function 2 then toIp position else
+    if eqb function 4 then toPercent position else
     Nowhere
 
 abbrev pub isAim : Aim → Bool

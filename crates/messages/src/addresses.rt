@@ -1,18 +1,18 @@
 // The node's own address, and its groups.
-use crate::code::Code;
-use crate::fields::holds;
+use crate::fields::shorter_than;
 use crate::outcome::Outcome;
-use crate::outcome::acts;
 use crate::outcome::in_twenty;
+use crate::outcome::out_of_range;
 use crate::outcome::posts;
-use crate::outcome::refuses;
+use crate::outcome::puts;
+use crate::outcome::too_little_data;
 use board::Change;
 use board::Node;
 use frame::data_byte;
 ghost use mathlib.Core.Path.{_≡_};
 ghost use Prim.Native.Nat.{_≤_};
 ghost use Rattle.frame.specs.Layout.{dataOf};
-ghost use Rattle.messages.specs.Addresses.{addressRow, groupData, groupRow, setGroupRow};
+ghost use Rattle.messages.specs.Addresses.{addressRow, groupData, groupRow, putIn, setGroupRow};
 ghost use Rattle.messages.specs.Outcome.{inTwenty};
 
 // 40h, answered 60h: the header says it all.
@@ -26,12 +26,12 @@ pub(crate) fn post_address(node: Node) -> Outcome
 pub(crate) fn post_group(node: Node, groups: [[u8; 3]; 16], bundle: &[u8]) -> Outcome
     ensures { λ r. ⌜ r ≡ groupRow node groups (dataOf (now (bundle .entry))) ⌝ }
 {
-    if !holds(bundle, 1) {
-        return refuses(node, Code::TooLittleData);
+    if shorter_than(bundle, 1) {
+        return too_little_data(node);
     }
     let index = data_byte(bundle, 0);
     if index > 15 {
-        return refuses(node, Code::OutOfRange);
+        return out_of_range(node);
     }
     posts(node, 0x61, 4, group_told(groups, index))
 }
@@ -40,17 +40,24 @@ pub(crate) fn post_group(node: Node, groups: [[u8; 3]; 16], bundle: &[u8]) -> Ou
 pub(crate) fn set_group(node: Node, bundle: &[u8]) -> Outcome
     ensures { λ r. ⌜ r ≡ setGroupRow node (dataOf (now (bundle .entry))) ⌝ }
 {
-    if !holds(bundle, 4) {
-        return refuses(node, Code::TooLittleData);
+    if shorter_than(bundle, 4) {
+        return too_little_data(node);
     }
     let index = data_byte(bundle, 0);
     if index > 15 {
-        return refuses(node, Code::OutOfRange);
+        return out_of_range(node);
     }
+    puts(node, put_in(bundle, index))
+}
+
+// The entry's bytes stand behind its index.
+fn put_in(bundle: &[u8], index: u8) -> Change
+    ensures { λ r. ⌜ r ≡ putIn index (dataOf (now (bundle .entry))) ⌝ }
+{
     let low = data_byte(bundle, 1);
     let middle = data_byte(bundle, 2);
     let high = data_byte(bundle, 3);
-    acts(node, Change::Put(index, low, middle, high))
+    Change::Put(index, low, middle, high)
 }
 
 // Index, group.

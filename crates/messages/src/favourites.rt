@@ -1,12 +1,13 @@
 // SET_MOTOR_IP, and what is told of an IP.
 use crate::code::Code;
-use crate::fields::holds;
+use crate::fields::shorter_than;
 use crate::outcome::Outcome;
 use crate::outcome::acts;
 use crate::outcome::in_twenty;
+use crate::outcome::out_of_range;
 use crate::outcome::posts;
 use crate::outcome::refuses;
-use board::Change;
+use crate::outcome::too_little_data;
 use board::Favourites;
 use board::Ip;
 use board::Node;
@@ -18,10 +19,10 @@ use travel::Pulse;
 use travel::percent_of_pulse;
 use travel::pulse_of_percent;
 ghost use mathlib.Core.Path.{_≡_};
-ghost use mathlib.Core.List.{[], _∷_};
-ghost use Rattle.board.specs.Favourites.{isNumber, isSet, ipAt};
+ghost use Rattle.board.specs.Favourites.{isNumber, isSet};
 ghost use Rattle.frame.specs.Layout.{dataOf};
-ghost use Rattle.messages.specs.Ips.{orderOf, shareOrder, isOrder, findsItsIp, ordered, setIpRow, percentOr, ipRow};
+ghost use Rattle.messages.specs.Ips.{orderOf, orderIn, shareOrder, isOrder, findsItsIp, ordered, setIpRow};
+ghost use Rattle.messages.specs.Ips.{percentOr, ipData, ipRow};
 ghost use Rattle.messages.specs.Outcome.{inTwenty};
 
 // What SET_MOTOR_IP is to do.
@@ -40,37 +41,38 @@ pub enum Order {
 pub(crate) fn set_ip(node: Node, bundle: &[u8]) -> Outcome
     ensures { λ r. ⌜ r ≡ setIpRow node (dataOf (now (bundle .entry))) ⌝ }
 {
-    if !holds(bundle, 4) {
-        return refuses(node, Code::TooLittleData);
+    if shorter_than(bundle, 4) {
+        return too_little_data(node);
     }
-    let value = word(data_byte(bundle, 2), data_byte(bundle, 3));
-    let order = order_of(data_byte(bundle, 0), IpIndex(data_byte(bundle, 1)), value);
+    let order = order_in(bundle);
     if !is_order(order) {
-        return refuses(node, Code::OutOfRange);
+        return out_of_range(node);
     }
-    let favourites = node.favourites;
-    if !finds_its_ip(favourites, order) {
+    if !finds_its_ip(node.favourites, order) {
         return refuses(node, Code::IpNotSet);
     }
-    let ordered = ordered(node, order);
-    let after = node.with_favourites(ordered);
-    acts(after, Change::Keep)
+    acts(node.with_favourites(ordered(node, order)))
 }
 
 // 25h, answered 35h: index, reserved, percent or FFh.
 pub(crate) fn post_ip(node: Node, bundle: &[u8]) -> Outcome
     ensures { λ r. ⌜ r ≡ ipRow node (dataOf (now (bundle .entry))) ⌝ }
 {
-    if !holds(bundle, 1) {
-        return refuses(node, Code::TooLittleData);
+    if shorter_than(bundle, 1) {
+        return too_little_data(node);
     }
     let index = IpIndex(data_byte(bundle, 0));
     if !is_number(index) {
-        return refuses(node, Code::OutOfRange);
+        return out_of_range(node);
     }
-    let favourites = node.favourites;
-    let travel = node.settings.travel;
-    posts(node, 0x35, 4, ip_told(favourites, travel, index))
+    posts(node, 0x35, 4, ip_told(node, index))
+}
+
+fn order_in(bundle: &[u8]) -> Order
+    ensures { λ r. ⌜ r ≡ orderIn (dataOf (now (bundle .entry))) ⌝ }
+{
+    let value = word(data_byte(bundle, 2), data_byte(bundle, 3));
+    order_of(data_byte(bundle, 0), IpIndex(data_byte(bundle, 1)), value)
 }
 
 fn order_of(function: u8, index: IpIndex, value: u16) -> Order
@@ -184,10 +186,10 @@ fn percent_or(ip: Ip, travel: Pulse) -> u8
 }
 
 // Index, reserved, percent or FFh.
-fn ip_told(favourites: Favourites, travel: Pulse, index: IpIndex) -> [u8; 20]
-    ensures { λ r. ⌜ r ≡ inTwenty (index .0 ∷ 0xFF ∷ 0xFF ∷ percentOr (ipAt favourites index) travel ∷ []) ⌝ }
+fn ip_told(node: Node, index: IpIndex) -> [u8; 20]
+    ensures { λ r. ⌜ r ≡ inTwenty (ipData node index) ⌝ }
 {
-    let ip = favourites.ip_at(index);
-    let percent = percent_or(ip, travel);
+    let ip = node.favourites.ip_at(index);
+    let percent = percent_or(ip, node.settings.travel);
     in_twenty(&[index.0, 0xFF, 0xFF, percent])
 }

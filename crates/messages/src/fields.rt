@@ -2,13 +2,13 @@
 use frame::data_count;
 ghost use mathlib.Core.Path.{_≡_};
 ghost use Rattle.frame.specs.Layout.{dataOf};
-ghost use Rattle.messages.specs.Fields.{holds, bit};
+ghost use Rattle.messages.specs.Fields.{shorterThan, bit};
 
-// DATA has at least this many bytes; more are ignored.
-pub(crate) fn holds(bundle: &[u8], least: usize) -> bool
-    ensures { λ r. ⌜ r ≡ holds least (dataOf (now (bundle .entry))) ⌝ }
+// 11h: DATA has fewer bytes than this; more are ignored.
+pub(crate) fn shorter_than(bundle: &[u8], least: usize) -> bool
+    ensures { λ r. ⌜ r ≡ shorterThan least (dataOf (now (bundle .entry))) .holds ⌝ }
 {
-    least <= data_count(bundle)
+    data_count(bundle) < least
 }
 
 pub(crate) fn bit(flag: bool) -> u8

@@ -1,12 +1,11 @@
 // By what a board is known: its label, version and serial number.
-use crate::code::Code;
-use crate::fields::holds;
+use crate::fields::shorter_than;
 use crate::outcome::Outcome;
 use crate::outcome::acts;
 use crate::outcome::in_twenty;
+use crate::outcome::out_of_range;
 use crate::outcome::posts;
-use crate::outcome::refuses;
-use board::Change;
+use crate::outcome::too_little_data;
 use board::Node;
 use board::Plate;
 use board::is_label;
@@ -29,31 +28,28 @@ pub(crate) fn post_label(node: Node) -> Outcome
 pub(crate) fn set_label(node: Node, bundle: &[u8]) -> Outcome
     ensures { λ r. ⌜ r ≡ setLabelRow node (dataOf (now (bundle .entry))) ⌝ }
 {
-    if !holds(bundle, 16) {
-        return refuses(node, Code::TooLittleData);
+    if shorter_than(bundle, 16) {
+        return too_little_data(node);
     }
     let label = label_in(bundle);
     if !is_label(label) {
-        return refuses(node, Code::OutOfRange);
+        return out_of_range(node);
     }
-    let after = node.with_label(label);
-    acts(after, Change::Keep)
+    acts(node.with_label(label))
 }
 
 // 74h, answered 75h: the version.
 pub(crate) fn post_version(node: Node) -> Outcome
     ensures { λ r. ⌜ r ≡ versionRow node ⌝ }
 {
-    let plate = node.settings.plate;
-    posts(node, 0x75, 6, version_of(plate))
+    posts(node, 0x75, 6, version_of(node.settings.plate))
 }
 
 // 4Ch, answered 6Ch: the serial number.
 pub(crate) fn post_serial(node: Node) -> Outcome
     ensures { λ r. ⌜ r ≡ serialRow node ⌝ }
 {
-    let plate = node.settings.plate;
-    let origin = plate.origin;
+    let origin = node.settings.plate.origin;
     let serial = serial_of(node.settings.id.0, origin);
     posts(node, 0x6C, 12, in_twenty(&serial))
 }

@@ -1,55 +1,51 @@
 // SET_NETWORK_LOCK, and what is told of the lock.
 use crate::code::Code;
 use crate::fields::bit;
-use crate::fields::holds;
+use crate::fields::shorter_than;
+use crate::motor::halted;
 use crate::outcome::Outcome;
 use crate::outcome::acts;
 use crate::outcome::in_twenty;
+use crate::outcome::out_of_range;
 use crate::outcome::posts;
 use crate::outcome::refuses;
-use board::Change;
+use crate::outcome::too_little_data;
 use board::Lock;
 use board::Node;
 use frame::Address;
 use frame::data_byte;
 ghost use mathlib.Core.Path.{_≡_};
 ghost use mathlib.Core.Bool.{not, _&&_};
-ghost use mathlib.Core.List.{[], _∷_, _++_};
 ghost use lib.Dec.{leb};
 ghost use Rattle.meaning.specs.Membership.{isIn};
-ghost use Rattle.frame.specs.Address.{bytesOf};
 ghost use Rattle.frame.specs.Layout.{dataOf};
 ghost use Rattle.board.specs.Lock.{admits};
-ghost use Rattle.messages.specs.Fields.{bit};
-ghost use Rattle.messages.specs.Locking.{lockFunctions, lockedBy, setLockRow, lockRow};
+ghost use Rattle.messages.specs.Locking.{lockFunctions, lockBy, lockedBy, setLockRow, lockData, lockRow};
 ghost use Rattle.messages.specs.Outcome.{inTwenty};
 
 // 16h SET_NETWORK_LOCK: function, priority.
 pub(crate) fn set_lock(node: Node, source: Address, bundle: &[u8]) -> Outcome
     ensures { λ r. ⌜ r ≡ setLockRow node source (dataOf (now (bundle .entry))) ⌝ }
 {
-    if !holds(bundle, 2) {
-        return refuses(node, Code::TooLittleData);
+    if shorter_than(bundle, 2) {
+        return too_little_data(node);
     }
     let function = data_byte(bundle, 0);
     let priority = data_byte(bundle, 1);
     if !is_function(function) {
-        return refuses(node, Code::OutOfRange);
+        return out_of_range(node);
     }
-    let lock = node.lock;
-    if is_outranked(lock, function, priority) {
+    if is_outranked(node.lock, function, priority) {
         return refuses(node, Code::PriorityTooLow);
     }
-    let after = locked_by(node, source, function, priority);
-    acts(after, Change::Keep)
+    acts(locked_by(node, source, function, priority))
 }
 
 // 26h, answered 36h: status, source, priority, saved.
 pub(crate) fn post_lock(node: Node) -> Outcome
     ensures { λ r. ⌜ r ≡ lockRow node ⌝ }
 {
-    let lock = node.lock;
-    posts(node, 0x36, 6, lock_told(lock))
+    posts(node, 0x36, 6, lock_told(node))
 }
 
 // 0 unlock, 1 lock, 3 and 4 set and clear "saved".
@@ -79,35 +75,38 @@ fn is_outranked(lock: Lock, function: u8, priority: u8) -> bool
 fn locked_by(node: Node, source: Address, function: u8, priority: u8) -> Node
     ensures { λ r. ⌜ r ≡ lockedBy node source function priority ⌝ }
 {
-    let lock = node.lock;
-    let drive = node.drive;
+    let lock = lock_by(node.lock, source, function, priority);
+    if function == 1 {
+        return halted(node).with_lock(lock);
+    }
+    node.with_lock(lock)
+}
+
+fn lock_by(lock: Lock, source: Address, function: u8, priority: u8) -> Lock
+    ensures { λ r. ⌜ r ≡ lockBy lock source function priority ⌝ }
+{
     match function {
-        0 => node.with_lock(lock.unlocked()),
-        1 => {
-            let halted = node.with_drive(drive.halted());
-            halted.with_lock(lock.locked(source, priority))
-        }
-        3 => node.with_lock(lock.saving(true)),
-        _ => node.with_lock(lock.saving(false)),
+        0 => lock.unlocked(),
+        1 => lock.locked(source, priority),
+        3 => lock.saving(true),
+        _ => lock.saving(false),
     }
 }
 
 // Status, source, priority, saved.
-fn lock_told(lock: Lock) -> [u8; 20]
-    ensures { λ r.
-        ⌜ r ≡ inTwenty (bit (lock .locked) ∷ (bytesOf (lock .holder) ++ (lock .priority ∷ bit (lock .saved) ∷ []))) ⌝ }
+fn lock_told(node: Node) -> [u8; 20]
+    ensures { λ r. ⌜ r ≡ inTwenty (lockData node) ⌝ }
 {
-    let holder = lock.holder;
-    let source = holder.to_bytes();
-    let locked = bit(lock.locked);
-    let saved = bit(lock.saved);
+    let source = node.lock.holder.to_bytes();
+    let locked = bit(node.lock.locked);
+    let saved = bit(node.lock.saved);
     in_twenty(
         &[
             locked,
             source[0],
             source[1],
             source[2],
-            lock.priority,
+            node.lock.priority,
             saved,
         ],
     )

@@ -1,14 +1,13 @@
 // STOP, MOVETO, and what is told of the motor.
 use crate::code::Code;
-use crate::fields::holds;
+use crate::fields::shorter_than;
 use crate::outcome::Outcome;
 use crate::outcome::acts;
 use crate::outcome::in_twenty;
+use crate::outcome::out_of_range;
 use crate::outcome::posts;
 use crate::outcome::refuses;
-use board::Change;
-use board::Drive;
-use board::Favourites;
+use crate::outcome::too_little_data;
 use board::Ip;
 use board::Node;
 use frame::data_byte;
@@ -19,12 +18,12 @@ use travel::Pulse;
 use travel::percent_of_pulse;
 use travel::pulse_of_percent;
 ghost use mathlib.Core.Path.{_≡_};
-ghost use mathlib.Core.List.{[], _∷_, _++_};
-ghost use Rattle.travel.specs.Position.{percentOfPulse};
-ghost use Rattle.board.specs.Favourites.{reportedIp};
+ghost use Rattle.board.specs.Drive.{halted};
+ghost use Rattle.board.specs.Node.{withDrive};
+ghost use Rattle.board.specs.declared.favourites.Ip.the-variants.{At};
 ghost use Rattle.frame.specs.Layout.{dataOf};
-ghost use Rattle.frame.specs.Words.{bytesOfWord};
-ghost use Rattle.messages.specs.Motor.{aimOf, isAim, targetOf, stopRow, moveRow, positionRow, statusRow};
+ghost use Rattle.messages.specs.Motor.{toIp, toPercent, aimOf, aimIn, isAim, targetOf, stopRow, moved, moveRow};
+ghost use Rattle.messages.specs.Motor.{positionData, positionRow, statusData, statusRow};
 ghost use Rattle.messages.specs.Outcome.{inTwenty};
 
 // Where MOVETO is to go.
@@ -41,30 +40,25 @@ pub enum Aim {
 pub(crate) fn stop(node: Node, bundle: &[u8]) -> Outcome
     ensures { λ r. ⌜ r ≡ stopRow node (dataOf (now (bundle .entry))) ⌝ }
 {
-    if !holds(bundle, 1) {
-        return refuses(node, Code::TooLittleData);
+    if shorter_than(bundle, 1) {
+        return too_little_data(node);
     }
-    let lock = node.lock;
-    if lock.locked {
+    if node.lock.locked {
         return refuses(node, Code::Locked);
     }
-    let drive = node.drive;
-    let halted = drive.halted();
-    let after = node.with_drive(halted);
-    acts(after, Change::Keep)
+    acts(halted(node))
 }
 
 // 03h MOVETO: function, position, reserved.
 pub(crate) fn move_to(node: Node, bundle: &[u8]) -> Outcome
     ensures { λ r. ⌜ r ≡ moveRow node (dataOf (now (bundle .entry))) ⌝ }
 {
-    if !holds(bundle, 4) {
-        return refuses(node, Code::TooLittleData);
+    if shorter_than(bundle, 4) {
+        return too_little_data(node);
     }
-    let position = word(data_byte(bundle, 1), data_byte(bundle, 2));
-    let aim = aim_of(data_byte(bundle, 0), position);
+    let aim = aim_in(bundle);
     if !is_aim(aim) {
-        return refuses(node, Code::OutOfRange);
+        return out_of_range(node);
     }
     if node.lock.locked {
         return refuses(node, Code::Locked);
@@ -73,58 +67,74 @@ pub(crate) fn move_to(node: Node, bundle: &[u8]) -> Outcome
         return refuses(node, Code::Blocked);
     }
     let target = target_of(node, aim);
-    match target {
-        Ip::Unset => refuses(node, Code::IpNotSet),
-        Ip::At(pulse) => {
-            let drive = node.drive;
-            let moved = drive.moved_to(pulse);
-            let after = node.with_drive(moved);
-            acts(after, Change::Keep)
-        }
-    }
+    let Ip::At(pulse) = target else {
+        return refuses(node, Code::IpNotSet);
+    };
+    moved(node, pulse)
 }
 
 // 0Ch, answered 0Dh: pulse, percent, reserved, IP.
 pub(crate) fn post_position(node: Node) -> Outcome
     ensures { λ r. ⌜ r ≡ positionRow node ⌝ }
 {
-    let position = node.drive.position;
-    let travel = node.settings.travel;
-    let favourites = node.favourites;
-    posts(node, 0x0D, 5, position_told(position, travel, favourites))
+    posts(node, 0x0D, 5, position_told(node))
 }
 
 // 0Eh, answered 0Fh: status, direction, source, cause.
 pub(crate) fn post_status(node: Node) -> Outcome
     ensures { λ r. ⌜ r ≡ statusRow node ⌝ }
 {
-    let status = node.status();
-    let drive = node.drive;
-    posts(node, 0x0F, 4, status_told(status, drive))
+    posts(node, 0x0F, 4, status_told(node))
+}
+
+// A running motor becomes stopped.
+pub(crate) fn halted(node: Node) -> Node
+    ensures { λ r. ⌜ r ≡ withDrive node (halted (node .drive)) ⌝ }
+{
+    node.with_drive(node.drive.halted())
+}
+
+fn moved(node: Node, target: Pulse) -> Outcome
+    ensures { λ r. ⌜ r ≡ moved node (At target) ⌝ }
+{
+    acts(node.with_drive(node.drive.moved_to(target)))
+}
+
+fn aim_in(bundle: &[u8]) -> Aim
+    ensures { λ r. ⌜ r ≡ aimIn (dataOf (now (bundle .entry))) ⌝ }
+{
+    let position = word(data_byte(bundle, 1), data_byte(bundle, 2));
+    aim_of(data_byte(bundle, 0), position)
 }
 
 fn aim_of(function: u8, position: u16) -> Aim
     ensures { λ r. ⌜ r ≡ aimOf function position ⌝ }
 {
-    if function == 0 {
-        return Aim::Down;
+    match function {
+        0 => Aim::Down,
+        1 => Aim::Up,
+        2 => to_ip(position),
+        4 => to_percent(position),
+        _ => Aim::Nowhere,
     }
-    if function == 1 {
-        return Aim::Up;
+}
+
+fn to_ip(position: u16) -> Aim
+    ensures { λ r. ⌜ r ≡ toIp position ⌝ }
+{
+    if position > 15 {
+        return Aim::Nowhere;
     }
-    if function == 2 {
-        if position > 15 {
-            return Aim::Nowhere;
-        }
-        return Aim::ToIp(IpIndex(position as u8 + 1));
+    Aim::ToIp(IpIndex(position as u8 + 1))
+}
+
+fn to_percent(position: u16) -> Aim
+    ensures { λ r. ⌜ r ≡ toPercent position ⌝ }
+{
+    if position > 100 {
+        return Aim::Nowhere;
     }
-    if function == 4 {
-        if position > 100 {
-            return Aim::Nowhere;
-        }
-        return Aim::ToPercent(Percent(position as u8));
-    }
-    Aim::Nowhere
+    Aim::ToPercent(Percent(position as u8))
 }
 
 fn is_aim(aim: Aim) -> bool
@@ -155,21 +165,28 @@ fn target_of(node: Node, aim: Aim) -> Ip
 }
 
 // Pulse, percent, reserved, IP.
-fn position_told(position: Pulse, travel: Pulse, favourites: Favourites) -> [u8; 20]
-    ensures { λ r.
-        ⌜ r ≡ inTwenty (bytesOfWord (position .0)
-        ++ (percentOfPulse position travel .0 ∷ 0xFF ∷ reportedIp favourites position ∷ [])) ⌝ }
+fn position_told(node: Node) -> [u8; 20]
+    ensures { λ r. ⌜ r ≡ inTwenty (positionData node) ⌝ }
 {
+    let position = node.drive.position;
     let low = (position.0 % 256) as u8;
     let high = (position.0 / 256) as u8;
-    let percent = percent_of_pulse(position, travel);
-    let ip = favourites.reported_ip(position);
+    let percent = percent_of_pulse(position, node.settings.travel);
+    let ip = node.favourites.reported_ip(position);
     in_twenty(&[low, high, percent.0, 0xFF, ip])
 }
 
 // Status, direction, source, cause.
-fn status_told(status: u8, drive: Drive) -> [u8; 20]
-    ensures { λ r. ⌜ r ≡ inTwenty (status ∷ drive .direction ∷ drive .source ∷ drive .cause ∷ []) ⌝ }
+fn status_told(node: Node) -> [u8; 20]
+    ensures { λ r. ⌜ r ≡ inTwenty (statusData node) ⌝ }
 {
-    in_twenty(&[status, drive.direction, drive.source, drive.cause])
+    let status = node.status();
+    in_twenty(
+        &[
+            status,
+            node.drive.direction,
+            node.drive.source,
+            node.drive.cause,
+        ],
+    )
 }

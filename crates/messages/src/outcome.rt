@@ -3,6 +3,7 @@ use crate::code::Code;
 use board::Change;
 use board::Node;
 ghost use mathlib.Core.Path.{_≡_};
+ghost use Rattle.messages.specs.declared.code.Code.{Code};
 ghost use Rattle.messages.specs.declared.outcome.Say.the-variants.{Post};
 ghost use Prim.Native.Nat.{_≤_};
 ghost use lib.ListN.{length};
@@ -28,12 +29,25 @@ pub struct Outcome {
     pub content: [u8; 20],
 }
 
-// A SET or CTRL carried out.
-pub(crate) fn acts(after: Node, change: Change) -> Outcome
-    ensures { λ r. ⌜ r ≡ acts after change ⌝ }
+// A SET or CTRL carried out on the node.
+pub(crate) fn acts(after: Node) -> Outcome
+    ensures { λ r. ⌜ r ≡ acts after Keep ⌝ }
 {
     Outcome {
         node: after,
+        change: Change::Keep,
+        say: Say::Done,
+        count: 0,
+        content: [0u8; 20],
+    }
+}
+
+// A SET carried out on the group table.
+pub(crate) fn puts(node: Node, change: Change) -> Outcome
+    ensures { λ r. ⌜ r ≡ acts node change ⌝ }
+{
+    Outcome {
+        node,
         change,
         say: Say::Done,
         count: 0,
@@ -67,6 +81,20 @@ pub(crate) fn refuses(node: Node, code: Code) -> Outcome
         count: 1,
         content,
     }
+}
+
+// 11h.
+pub(crate) fn too_little_data(node: Node) -> Outcome
+    ensures { λ r. ⌜ r ≡ refuses node Code.TooLittleData ⌝ }
+{
+    refuses(node, Code::TooLittleData)
+}
+
+// 01h.
+pub(crate) fn out_of_range(node: Node) -> Outcome
+    ensures { λ r. ⌜ r ≡ refuses node Code.OutOfRange ⌝ }
+{
+    refuses(node, Code::OutOfRange)
 }
 
 // DATA, and zeros behind it.

@@ -20,7 +20,7 @@ use Rattle.messages.specs.Ips.{percentOr}
 use Rattle.messages.specs.Locking.{lockRow, lockData}
 use Rattle.messages.specs.Addresses.{addressRow}
 use Rattle.messages.specs.Identity.{firstOf, labelRow, versionOf, versionRow, serialData, serialRow}
-use Rattle.messages.proofs.Messages.{at-0C, at-0E, at-26, at-40, at-45, at-74, at-4C}
+use Rattle.messages.proofs.Messages.{at-row}
 use Rattle.messages.proofs.FirstBytes.{so-many, the-whole}
 use Rattle.messages.proofs.Contents.{content-is, all-bytes}
 use Rattle.node.specs.Frames.{turnOf}
@@ -65,19 +65,19 @@ module _ (n : Node) (g : Groups) (b : List ℕ) (a : Arrives n g b) (t : Typed n
   -- 0Ch, 0Eh, 26h and 40h
   position-told : message b ≡ 0x0C → Posted n b (turnOf n g b) 0x0D (positionData n)
   unfolding positionRow
-  position-told m = told 0x0D (positionData n) (at-0C n g (source b) (message b) content m) (omega arith) (omega arith)
+  position-told m = told 0x0D (positionData n) (at-row n g (source b) (message b) content 0x0C m) (omega arith) (omega arith)
 
   status-told : message b ≡ 0x0E → Posted n b (turnOf n g b) 0x0F (statusData n)
   unfolding statusRow
-  status-told m = told 0x0F (statusData n) (at-0E n g (source b) (message b) content m) (omega arith) (omega arith)
+  status-told m = told 0x0F (statusData n) (at-row n g (source b) (message b) content 0x0E m) (omega arith) (omega arith)
 
   lock-told : message b ≡ 0x26 → Posted n b (turnOf n g b) 0x36 (lockData n)
   unfolding lockRow
-  lock-told m = told 0x36 (lockData n) (at-26 n g (source b) (message b) content m) (omega arith) (omega arith)
+  lock-told m = told 0x36 (lockData n) (at-row n g (source b) (message b) content 0x26 m) (omega arith) (omega arith)
 
   address-told : message b ≡ 0x40 → Posted n b (turnOf n g b) 0x60 []
   unfolding addressRow
-  address-told m = told 0x60 [] (at-40 n g (source b) (message b) content m) (omega arith) (omega arith)
+  address-told m = told 0x60 [] (at-row n g (source b) (message b) content 0x40 m) (omega arith) (omega arith)
 
   -- 41h
   group-told : message b ≡ 0x41 → Accepted (groupRows 1 content) → (low middle high : ℕ)
@@ -95,11 +95,11 @@ module _ (n : Node) (g : Groups) (b : List ℕ) (a : Arrives n g b) (t : Typed n
   label-told m =
       let sixteen = t .sixteen-characters in
       told 0x65 (n .label)
-      (at-45 n g (source b) (message b) content m ∙ ap (posts n 0x65) (the-whole 16 (n .label) sixteen)) (omega arith) (omega arith)
+      (at-row n g (source b) (message b) content 0x45 m ∙ ap (posts n 0x65) (the-whole 16 (n .label) sixteen)) (omega arith) (omega arith)
 
   version-told : message b ≡ 0x74 → Posted n b (turnOf n g b) 0x75 (versionOf (n .settings .plate))
   unfolding versionRow
-  version-told m = told 0x75 (versionOf (n .settings .plate)) (at-74 n g (source b) (message b) content m) (omega arith) (omega arith)
+  version-told m = told 0x75 (versionOf (n .settings .plate)) (at-row n g (source b) (message b) content 0x74 m) (omega arith) (omega arith)
 
   abbrev id : ℕ
   id = n .settings .id .0
@@ -122,7 +122,7 @@ module _ (n : Node) (g : Groups) (b : List ℕ) (a : Arrives n g b) (t : Typed n
           (
             serials .the-origin-is-read-back id origin,
             told 0x6C (serialOf id origin)
-                (at-4C n g (source b) (message b) content m ∙ ap (λ (o : List ℕ). posts n 0x6C (serialOf id o)) (the-whole 6 origin six))
+                (at-row n g (source b) (message b) content 0x4C m ∙ ap (λ (o : List ℕ). posts n 0x6C (serialOf id o)) (the-whole 6 origin six))
                 (omega arith) (omega (arith, six)),
           ),
         ),

@@ -46,7 +46,7 @@ use Rattle.messages.specs.Addresses.{groupCodes, groupData, groupRow, setGroupR
 use Rattle.messages.specs.Identity.{labelIn, setLabelCodes, setLabelRow}
 use Rattle.messages.specs.declared.code.Code.{Code}
 use Rattle.messages.specs.declared.outcome.Outcome.{Outcome}
-use Rattle.messages.proofs.Messages.{at-02, at-03, at-15, at-16, at-25, at-41, at-51, at-55, at-no-row}
+use Rattle.messages.proofs.Messages.{at-row, at-no-row}
 use Rattle.messages.proofs.Orders.{sharing, deleting, here, percent-beyond, percent-at}
 use Rattle.node.specs.Frames.{turnOf}
 use Rattle.promises.specs.BoardParts.{ipOf}
@@ -289,25 +289,25 @@ module _ (n : Node) (g : Groups) (b : List ℕ) (a : Arrives n g b) where
   pub stop-by : message b ≡ 0x02 → ByItsCodes (stopRows n content) (stopped n)
   unfolding stopRow
   stop-by m =
-      by-its-codes (stopCodes n content) (stopped n) (at-02 n g (source b) (message b) content m) refl (stopRows n content) (stop-alike n content)
+      by-its-codes (stopCodes n content) (stopped n) (at-row n g (source b) (message b) content 0x02 m) refl (stopRows n content) (stop-alike n content)
 
   pub move-by : message b ≡ 0x03 → ByItsCodes (moveRows n content) (moved n (targetOf n (aimIn content)))
   unfolding moveRow
   move-by m =
       by-its-codes (moveCodes n content (aimIn content)) (moved n (targetOf n (aimIn content)))
-      (at-03 n g (source b) (message b) content m) refl (moveRows n content) (move-alike n content)
+      (at-row n g (source b) (message b) content 0x03 m) refl (moveRows n content) (move-alike n content)
 
   pub set-ip-by : message b ≡ 0x15 → ByItsCodes (setIpRows n content) (keepingIps n (ordered n (orderIn content)))
   unfolding setIpRow
   set-ip-by m =
       by-its-codes (setIpCodes n content (orderIn content)) (keepingIps n (ordered n (orderIn content)))
-      (at-15 n g (source b) (message b) content m) refl (setIpRows n content) (set-ip-alike n content)
+      (at-row n g (source b) (message b) content 0x15 m) refl (setIpRows n content) (set-ip-alike n content)
 
   pub ip-by : message b ≡ 0x25 → ByItsCodes (ipRows content) (posts n 0x35 (ipData n (ip (byteAt content 0))))
   unfolding ipRow
   ip-by m =
       by-its-codes (ipCodes content (ip (byteAt content 0))) (posts n 0x35 (ipData n (ip (byteAt content 0))))
-      (at-25 n g (source b) (message b) content m) refl (ipRows content) (ip-alike n content)
+      (at-row n g (source b) (message b) content 0x25 m) refl (ipRows content) (ip-alike n content)
 
   pub lock-by : message b ≡ 0x16
       → ByItsCodes (lockRows n content) (acts (lockedBy n (source b) (byteAt content 0) (byteAt content 1)) Keep)
@@ -315,13 +315,13 @@ module _ (n : Node) (g : Groups) (b : List ℕ) (a : Arrives n g b) where
   lock-by m =
       by-its-codes (setLockCodes n content (byteAt content 0) (byteAt content 1))
       (acts (lockedBy n (source b) (byteAt content 0) (byteAt content 1)) Keep)
-      (at-16 n g (source b) (message b) content m) refl (lockRows n content) (lock-alike n content)
+      (at-row n g (source b) (message b) content 0x16 m) refl (lockRows n content) (lock-alike n content)
 
   pub group-by : message b ≡ 0x41 → ByItsCodes (groupRows 1 content) (posts n 0x61 (groupData g (byteAt content 0)))
   unfolding groupRow
   group-by m =
       by-its-codes (groupCodes 1 content (byteAt content 0)) (posts n 0x61 (groupData g (byteAt content 0)))
-      (at-41 n g (source b) (message b) content m) refl (groupRows 1 content) (group-alike n content 1)
+      (at-row n g (source b) (message b) content 0x41 m) refl (groupRows 1 content) (group-alike n content 1)
 
   pub set-group-by : message b ≡ 0x51
       → ByItsCodes (groupRows 4 content) (acts n (Put (byteAt content 0) (byteAt content 1) (byteAt content 2) (byteAt content 3)))
@@ -329,13 +329,13 @@ module _ (n : Node) (g : Groups) (b : List ℕ) (a : Arrives n g b) where
   set-group-by m =
       by-its-codes (groupCodes 4 content (byteAt content 0))
       (acts n (Put (byteAt content 0) (byteAt content 1) (byteAt content 2) (byteAt content 3)))
-      (at-51 n g (source b) (message b) content m) refl (groupRows 4 content) (group-alike n content 4)
+      (at-row n g (source b) (message b) content 0x51 m) refl (groupRows 4 content) (group-alike n content 4)
 
   pub label-by : message b ≡ 0x55 → ByItsCodes (labelRows content) (acts (withLabel n (labelIn content)) Keep)
   unfolding setLabelRow
   label-by m =
       by-its-codes (setLabelCodes content) (acts (withLabel n (labelIn content)) Keep)
-      (at-55 n g (source b) (message b) content m) refl (labelRows content) (label-alike n content)
+      (at-row n g (source b) (message b) content 0x55 m) refl (labelRows content) (label-alike n content)
 
   -- A message that is none of the table's passes every row.
   no-row : (m : ℕ) → ¬ IsOneOf m messages → tables.Passed (messageRows n g (source b) m content)

@@ -15,20 +15,20 @@ use Rattle.messages.proofs.addresses.post_group.Statement.{statement}
 use Rattle.messages.proofs.addresses.post_group.Tie as tie
 
 one : (c : tie.After-data-byte) → 1 ≤ length (dataOf (c .before .before .before .before .args .bundle .now))
-one c = enough 1 (dataOf (c .before .before .before .before .args .bundle .now)) (c .before .before .holds .ensures) (c .before .if1 .left)
+one c = enough 1 (dataOf (c .before .before .before .before .args .bundle .now)) (c .before .before .shorter-than .ensures) (c .before .if1 .left)
 
 returns : tie.Need-returns
 returns c =
     let h = c .before .before in
     let x = h .before .before .args in
     let d = dataOf (x .bundle .now) in
-    c .refuses .ensures ∙ sym (group-at (x .node) d 0 (x .groups) (too-little 1 d (h .holds .ensures) (c .before .if1 .taken)))
+    c .too-little-data .ensures ∙ sym (group-at (x .node) d 0 (x .groups) (too-little 1 d (h .shorter-than .ensures) (c .before .if1 .taken)))
 
 returns-2 : tie.Need-returns-2
 returns-2 c =
     let i = c .before .before in
     let x = i .before .before .before .before .args in
-    c .refuses2 .ensures
+    c .out-of-range .ensures
     ∙ sym (group-at (x .node) (dataOf (x .bundle .now)) 1 (x .groups)
     (one i, subst (λ (k : ℕ). 15 < k) (i .data-byte .ensures) (c .before .if2 .taken)))
 

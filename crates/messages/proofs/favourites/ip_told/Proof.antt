@@ -16,7 +16,14 @@ returns c =
     let x = told .before .before .args in
     c .in-twenty .ensures
     ∙ ap (λ (k : ℕ). inTwenty (x .index .0 ∷ 0xFF ∷ 0xFF ∷ k ∷ []))
-    (told .percent-or .ensures ∙ ap (λ (p : Ip). percentOr p (x .travel)) (told .before .ip-at .ensures))
+    (told .percent-or .ensures ∙ ap (λ (p : Ip). percentOr p (x .node .settings .travel)) (told .before .ip-at .ensures))
 
 pub ip-told-spec : {M : Type 1} → statement M
-ip-told-spec = tie.close (tie.spec (λ c κs. search needs) (λ c κs. search needs) (λ c. search needs) (λ c κs. search needs) returns)
+ip-told-spec =
+    tie.close
+    (tie.spec
+    (λ c κs. search needs)
+    (λ c κs. search needs)
+    (λ c. search needs)
+    (λ c κs. search needs)
+    returns)

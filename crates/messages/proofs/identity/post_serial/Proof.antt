@@ -22,7 +22,7 @@ returns : tie.Need-returns
 unfolding serialRow
 returns c =
     let s = c .before .before .before in
-    let b = s .before .before .before in
+    let b = s .before .before in
     let n = b .args .node in
     let origin = n .settings .plate .origin in
     c .posts .ensures
@@ -36,6 +36,6 @@ post-serial-spec =
     (tie.spec
     (λ c κs. search needs)
     (λ c. search needs)
-    (λ c κs. omega (arith, ap length (c .before .serial-of .ensures), six (c .before .before .before .before)))
+    (λ c κs. omega (arith, ap length (c .before .serial-of .ensures), six (c .before .before .before)))
     (λ c κs. search needs)
     returns)

@@ -15,7 +15,7 @@ returns : tie.Need-returns
 unfolding versionRow
 returns c =
     c .posts .ensures
-    ∙ ap (λ (content : List ℕ). outcome (c .before .before .before .args .node) Keep (Post 0x75) 6 content) (c .before .version-of .ensures)
+    ∙ ap (λ (content : List ℕ). outcome (c .before .before .args .node) Keep (Post 0x75) 6 content) (c .before .version-of .ensures)
 
 pub post-version-spec : {M : Type 1} → statement M
 post-version-spec = tie.close (tie.spec (λ c κs. search needs) (λ c κs. search needs) returns)

@@ -25,7 +25,7 @@ abbrev content : tie.Start → List ℕ
 content s = dataOf (s .args .bundle .now)
 
 sixteen : (c : tie.After-is-label) → 16 ≤ length (content (entered c))
-sixteen c = enough 16 (content (entered c)) (c .before .before .before .holds .ensures) (c .before .before .if1 .left)
+sixteen c = enough 16 (content (entered c)) (c .before .before .before .shorter-than .ensures) (c .before .before .if1 .left)
 
 judged : (c : tie.After-is-label) → c .is-label .result ≡ isLabel (labelIn (content (entered c)))
 judged c = c .is-label .ensures ∙ ap isLabel (c .before .label-in .ensures)
@@ -35,13 +35,13 @@ returns c =
     let h = c .before .before in
     let x = h .before .before .args in
     let d = dataOf (x .bundle .now) in
-    c .refuses .ensures ∙ sym (set-label-at (x .node) d 0 (too-little 16 d (h .holds .ensures) (c .before .if1 .taken)))
+    c .too-little-data .ensures ∙ sym (set-label-at (x .node) d 0 (too-little 16 d (h .shorter-than .ensures) (c .before .if1 .taken)))
 
 returns-2 : tie.Need-returns-2
 returns-2 c =
     let i = c .before .before in
     let x = entered i .args in
-    c .refuses2 .ensures
+    c .out-of-range .ensures
     ∙ sym (set-label-at (x .node) (dataOf (x .bundle .now)) 1 (sixteen i, found-false (judged i) (c .before .if2 .taken)))
 
 returns-3 : tie.Need-returns-3

@@ -23,7 +23,7 @@ returns c =
     let f = s .before in
     let b = f .before in
     c .in-twenty .ensures
-    ∙ spelled (b .before .before .args .lock) (f .bit .result) (s .bit2 .result) (b .to-bytes .result)
+    ∙ spelled (b .before .args .node .lock) (f .bit .result) (s .bit2 .result) (b .to-bytes .result)
     (f .bit .ensures) (s .bit2 .ensures) (b .to-bytes .ensures)
 
 pub lock-told-spec : {M : Type 1} → statement M

@@ -15,7 +15,7 @@ returns : tie.Need-returns
 unfolding lockRow
 returns c =
     c .posts .ensures
-    ∙ ap (λ (content : List ℕ). outcome (c .before .before .before .args .node) Keep (Post 0x36) 6 content) (c .before .lock-told .ensures)
+    ∙ ap (λ (content : List ℕ). outcome (c .before .before .args .node) Keep (Post 0x36) 6 content) (c .before .lock-told .ensures)
 
 pub post-lock-spec : {M : Type 1} → statement M
 post-lock-spec = tie.close (tie.spec (λ c κs. search needs) (λ c κs. search needs) returns)

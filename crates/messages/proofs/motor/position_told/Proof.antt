@@ -13,9 +13,9 @@ use Rattle.messages.proofs.motor.position_told.Tie as tie
 returns : tie.Need-returns
 returns c =
     let found = c .before .before in
-    let p = found .before .before .before .before .args .position in
+    let n = found .before .before .before .before .before .args .node in
     c .in-twenty .ensures
-    ∙ ap₂ (λ (percent : Percent) (found : ℕ). inTwenty (bytesOfWord (p .0) ++ (percent .0 ∷ 0xFF ∷ found ∷ [])))
+    ∙ ap₂ (λ (percent : Percent) (found : ℕ). inTwenty (bytesOfWord (n .drive .position .0) ++ (percent .0 ∷ 0xFF ∷ found ∷ [])))
     (found .before .percent-of-pulse .ensures) (found .reported-ip .ensures)
 
 pub position-told-spec : {M : Type 1} → statement M

@@ -15,8 +15,7 @@ returns : tie.Need-returns
 unfolding positionRow
 returns c =
     c .posts .ensures
-    ∙ ap (λ (content : List ℕ). outcome (c .before .before .before .before .before .args .node) Keep (Post 0x0D) 5 content)
-    (c .before .position-told .ensures)
+    ∙ ap (λ (content : List ℕ). outcome (c .before .before .args .node) Keep (Post 0x0D) 5 content) (c .before .position-told .ensures)
 
 pub post-position-spec : {M : Type 1} → statement M
 post-position-spec = tie.close (tie.spec (λ c κs. search needs) (λ c κs. search needs) returns)

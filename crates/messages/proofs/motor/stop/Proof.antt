@@ -2,7 +2,6 @@
 -- Assumes nothing.
 use borrow.Author.Needs.{needs}
 use mathlib.Core.Path.{_∙_, sym, ap}
-use Rattle.board.specs.Node.{withDrive}
 use Rattle.board.specs.declared.groups.Change.the-variants.{Keep}
 use Rattle.board.specs.declared.whole.Node.{Node}
 use Rattle.frame.specs.Layout.{dataOf}
@@ -16,24 +15,25 @@ returns c =
     let h = c .before .before in
     let x = h .before .before .args in
     let d = dataOf (x .bundle .now) in
-    c .refuses .ensures ∙ sym (stop-at (x .node) d 0 (too-little 1 d (h .holds .ensures) (c .before .if1 .taken)))
+    c .too-little-data .ensures ∙ sym (stop-at (x .node) d 0 (too-little 1 d (h .shorter-than .ensures) (c .before .if1 .taken)))
 
 returns-2 : tie.Need-returns-2
 returns-2 c =
-    let h = c .before .before .before .before in
+    let held = c .before .before in
+    let h = held .before in
     let x = h .before .before .args in
     let d = dataOf (x .bundle .now) in
-    c .refuses2 .ensures ∙ sym (stop-at (x .node) d 1 (enough 1 d (h .holds .ensures) (c .before .before .before .if1 .left), c .before .if2 .taken))
+    c .refuses .ensures ∙ sym (stop-at (x .node) d 1 (enough 1 d (h .shorter-than .ensures) (held .if1 .left), c .before .if2 .taken))
 
 returns-3 : tie.Need-returns-3
 returns-3 c =
-    let free = c .before .before .before .before in
-    let h = free .before .before .before in
+    let held = c .before .before .before in
+    let h = held .before in
     let x = h .before .before .args in
     let d = dataOf (x .bundle .now) in
     c .acts .ensures
-    ∙ ap (λ (n : Node). acts n Keep) (c .before .with-drive .ensures ∙ ap (withDrive (x .node)) (c .before .before .halted .ensures))
-    ∙ sym (stop-at (x .node) d 2 (enough 1 d (h .holds .ensures) (free .before .before .if1 .left), (free .if2 .left, tt)))
+    ∙ ap (λ (n : Node). acts n Keep) (c .before .halted .ensures)
+    ∙ sym (stop-at (x .node) d 2 (enough 1 d (h .shorter-than .ensures) (held .if1 .left), (c .before .before .if2 .left, tt)))
 
 pub stop-spec : {M : Type 1} → statement M
 stop-spec =
@@ -44,7 +44,6 @@ stop-spec =
     returns
     (λ c κs. search needs)
     returns-2
-    (λ c κs. search needs)
     (λ c κs. search needs)
     (λ c κs. search needs)
     returns-3)

@@ -1,31 +1,27 @@
 -- Each arm is its row; a message of no arm has no row.
 -- Assumes nothing.
 use borrow.Author.Needs.{needs}
-use mathlib.Core.Path.{_∙_, sym}
+use mathlib.Core.Path.{_≡_, _∙_, sym}
+use Prim.Native.Nat.{ℕ}
+use Rattle.meaning.specs.Tables.{decide}
 use Rattle.frame.specs.Layout.{dataOf}
-use Rattle.messages.proofs.Messages.{
-  at-02,
-  at-03,
-  at-0C,
-  at-0E,
-  at-15,
-  at-25,
-  at-16,
-  at-26,
-  at-40,
-  at-41,
-  at-51,
-  at-45,
-  at-55,
-  at-74,
-  at-4C,
-  at-no-row,
-  _then_,
-}
+use Rattle.messages.specs.declared.code.Code.{Code}
+use Rattle.messages.specs.declared.outcome.Outcome.{Outcome}
+use Rattle.messages.specs.Outcome.{refuses}
+use Rattle.messages.specs.Table.{messageRows, outcomeOf}
+use Rattle.messages.proofs.Messages.{at-row, at-no-row, _then_}
 use Rattle.messages.proofs.table.outcome_of.Statement.{statement}
 use Rattle.messages.proofs.table.outcome_of.Tie as tie
 
-ruleset rows = (at-02, at-03, at-0C, at-0E, at-15, at-25, at-16, at-26, at-40, at-41, at-51, at-45, at-55, at-74, at-4C)
+-- What was answered in the arm of a message is what the message table says.
+row : (s : tie.Start) {answer : Outcome} (k : ℕ) → s .args .message ≡ k
+    → let x = s .args in
+    let d = dataOf (x .bundle .now) in
+    answer ≡ decide (messageRows (x .node) (x .groups) (x .source) k d) (refuses (x .node) Code.UnknownMessage)
+    → answer ≡ outcomeOf (x .node) (x .groups) (x .source) (x .message) d
+row s k e answered =
+    let x = s .args in
+    answered ∙ sym (at-row (x .node) (x .groups) (x .source) (x .message) (dataOf (x .bundle .now)) k e)
 
 no-row : tie.Need-returns-16
 no-row c =
@@ -71,19 +67,19 @@ outcome-of-spec =
     (λ c κs. search needs)
     (λ c κs. search needs)
     (λ c κs. search needs)
-    (λ c. search rows)
-    (λ c. search rows)
-    (λ c. search rows)
-    (λ c. search rows)
-    (λ c. search rows)
-    (λ c. search rows)
-    (λ c. search rows)
-    (λ c. search rows)
-    (λ c. search rows)
-    (λ c. search rows)
-    (λ c. search rows)
-    (λ c. search rows)
-    (λ c. search rows)
-    (λ c. search rows)
-    (λ c. search rows)
+    (λ c. row (c .before .before .before) 0x02 (c .before .match .keys1) (c .stop .ensures))
+    (λ c. row (c .before .before .before) 0x03 (c .before .match .keys2) (c .move-to .ensures))
+    (λ c. row (c .before .before .before) 0x0C (c .before .match .keys3) (c .post-position .ensures))
+    (λ c. row (c .before .before .before) 0x0E (c .before .match .keys4) (c .post-status .ensures))
+    (λ c. row (c .before .before .before) 0x15 (c .before .match .keys5) (c .set-ip .ensures))
+    (λ c. row (c .before .before .before) 0x25 (c .before .match .keys6) (c .post-ip .ensures))
+    (λ c. row (c .before .before .before) 0x16 (c .before .match .keys7) (c .set-lock .ensures))
+    (λ c. row (c .before .before .before) 0x26 (c .before .match .keys8) (c .post-lock .ensures))
+    (λ c. row (c .before .before .before) 0x40 (c .before .match .keys9) (c .post-address .ensures))
+    (λ c. row (c .before .before .before) 0x41 (c .before .match .keys10) (c .post-group .ensures))
+    (λ c. row (c .before .before .before) 0x51 (c .before .match .keys11) (c .set-group .ensures))
+    (λ c. row (c .before .before .before) 0x45 (c .before .match .keys12) (c .post-label .ensures))
+    (λ c. row (c .before .before .before) 0x55 (c .before .match .keys13) (c .set-label .ensures))
+    (λ c. row (c .before .before .before) 0x74 (c .before .match .keys14) (c .post-version .ensures))
+    (λ c. row (c .before .before .before) 0x4C (c .before .match .keys15) (c .post-serial .ensures))
     no-row)
