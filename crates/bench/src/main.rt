@@ -29,9 +29,9 @@ fn main() {
     let mut kept = unkept();
     let mut heard = unheard();
     let mut input = Input::begun();
-    let mut chunk = io::large_buffer();
-    let mut out = io::large_buffer();
-    let mut bytes = io::buffer();
+    let mut chunk = [0u8; 65536];
+    let mut out = [0u8; 65536];
+    let mut bytes = [0u8; 4096];
     let mut line = [0u8; 8194];
     let mut at: u16 = 0;
     let mut turns = u64::MAX;
@@ -42,11 +42,12 @@ fn main() {
         let table = groups_after(groups, shown);
         groups = table;
         at = put_board(shown, groups, order, &mut out, at);
-        kept = at_register(kept, order, order.hex(&bytes));
+        let hex = order.hex(&bytes);
+        kept = at_register(kept, order, hex);
         at = put_register(kept, order, &mut out, at);
-        heard = at_wire(heard, order, order.hex(&bytes));
+        heard = at_wire(heard, order, hex);
         at = put_said(&mut out, at, heard.said);
-        at = write_out(&out, at, input.used_up());
+        at = write_out(&out, at, input);
         if input.have == 0 {
             break;
         }
@@ -58,9 +59,9 @@ fn main() {
 }
 
 // The rows gathered, where they are many or all that was read is answered: whoever types a line sees its row.
-fn write_out(out: &[u8; 65536], at: u16, answered: bool) -> u16 {
+fn write_out(out: &[u8; 65536], at: u16, input: Input) -> u16 {
     if at < GATHERED {
-        if !answered {
+        if input.next < input.have {
             return at;
         }
     }

@@ -38,12 +38,7 @@ pub fn no_board() -> Shown {
 pub fn at_board(node: Node, order: Order, bytes: &[u8; 4096]) -> Shown {
     let command = order.command;
     match command {
-        command::NODE => told(node, board::set_up(settings(order, plain())), answer::READY),
-        command::NODE_AND_PLATE => told(
-            node,
-            board::set_up(settings(order, plate(order, bytes))),
-            answer::READY,
-        ),
+        command::NODE | command::NODE_AND_PLATE => told(node, set_up(order, bytes), answer::READY),
         command::PULSE | command::BLOCKED | command::CLEARED | command::POWER => told(
             node,
             after(node, order),
@@ -63,17 +58,20 @@ fn unchanged(node: Node, said: Said) -> Shown {
 }
 
 // `node ID DEC DEC`
-fn settings(order: Order, plate: Plate) -> Settings {
-    Settings {
+fn set_up(order: Order, bytes: &[u8; 4096]) -> After {
+    board::set_up(Settings {
         id: Address(order.large(0)),
         kind: order.small(1),
         travel: Pulse(order.medium(2)),
-        plate,
-    }
+        plate: plate(order, bytes),
+    })
 }
 
-// `DEC BYTE BYTE HEX` behind these, of six bytes.
+// `DEC BYTE BYTE HEX` behind these, of six bytes; without them the plain plate.
 fn plate(order: Order, bytes: &[u8; 4096]) -> Plate {
+    if order.command == command::NODE {
+        return plain();
+    }
     Plate {
         reference: order.large(3),
         letter: order.small(4),
@@ -86,7 +84,6 @@ fn origin(bytes: &[u8; 4096]) -> [u8; 6] {
     [bytes[0], bytes[1], bytes[2], bytes[3], bytes[4], bytes[5]]
 }
 
-// The plate of a board that names none.
 fn plain() -> Plate {
     Plate {
         reference: 0,

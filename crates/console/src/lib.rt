@@ -19,3 +19,4 @@ pub use lines::first;
 pub use rows::NONE;
 pub use rows::put_row;
 pub use rows::put_text;
+pub use words::part;

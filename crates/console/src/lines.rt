@@ -46,11 +46,6 @@ impl Input {
         }
         held
     }
-
-    // All that was read is used.
-    pub fn used_up(self) -> bool {
-        self.next >= self.have
-    }
 }
 
 fn read_some(chunk: &mut [u8; 65536]) -> usize {

@@ -60,19 +60,38 @@ pub fn parts(line: &[u8]) -> usize {
     count
 }
 
-// The bytes of HEX go into the run that is lent.
+// The digits go into the run that is lent, two a byte.
 pub fn value_of(kind: u8, word: &[u8], bytes: &mut [u8; 4096]) -> u64 {
-    let count = digit_of(kind) as usize;
+    let count = digit_of(kind);
     if count == 0 {
-        return bytes_of(word, bytes);
+        if same(word, b"-") {
+            return 0;
+        }
     }
-    if count > 15 {
-        return decimal(word, most(kind));
-    }
-    if word.len() != 2 * count {
+    if !is_long(word.len(), count) {
         return MALFORMED;
     }
-    hexadecimal(word, bytes)
+    let number = number_of(word, base_of(count), bytes);
+    if number > most(kind) {
+        return MALFORMED;
+    }
+    number
+}
+
+// HEX has two digits a byte, DEC at most ten.
+fn is_long(digits: usize, count: u8) -> bool {
+    match count {
+        0 => digits % 2 == 0,
+        16 => digits <= 10,
+        _ => digits == 2 * (count as usize),
+    }
+}
+
+fn base_of(count: u8) -> u8 {
+    if count == 16 {
+        return 10;
+    }
+    16
 }
 
 fn most(kind: u8) -> u64 {
@@ -84,54 +103,26 @@ fn most(kind: u8) -> u64 {
     }
 }
 
-// DEC: 1 to 10 digits, up to a greatest number.
-fn decimal(word: &[u8], most: u64) -> u64 {
-    if word.len() > 10 {
-        return MALFORMED;
-    }
-    let number = number_of(word);
-    if number > most {
-        return MALFORMED;
-    }
-    number
-}
-
-// The number of at most ten decimal digits. No digits are malformed.
-fn number_of(word: &[u8]) -> u64 {
+// No digits are malformed.
+fn number_of(word: &[u8], base: u8, bytes: &mut [u8; 4096]) -> u64 {
     let mut number = MALFORMED;
     for i in 0..word.len() {
         let digit = digit_of(word[i]);
-        if digit > 9 {
-            return MALFORMED;
-        }
-        number = number % MALFORMED * 10 + digit as u64;
-    }
-    number
-}
-
-// HEX of any even number of digits, or `-` for none.
-fn bytes_of(word: &[u8], bytes: &mut [u8; 4096]) -> u64 {
-    if same(word, b"-") {
-        return 0;
-    }
-    if word.len() % 2 != 0 {
-        return MALFORMED;
-    }
-    hexadecimal(word, bytes)
-}
-
-// The number that the last eight hexadecimal digits are. No digits are malformed.
-fn hexadecimal(word: &[u8], bytes: &mut [u8; 4096]) -> u64 {
-    let mut number = MALFORMED;
-    for i in 0..word.len() {
-        let digit = digit_of(word[i]);
-        if digit > 15 {
+        if digit >= base {
             return MALFORMED;
         }
         keep(bytes, i, digit);
-        number = number % 0x1000_0000 * 16 + digit as u64;
+        number = with_digit(number, base, digit);
     }
     number
+}
+
+// The number that the last eight digits of HEX are, or all ten of DEC.
+fn with_digit(number: u64, base: u8, digit: u8) -> u64 {
+    if base == 16 {
+        return number % 0x1000_0000 * 16 + digit as u64;
+    }
+    number % MALFORMED * 10 + digit as u64
 }
 
 // A digit of a number in the run, the high one of a byte before the low one.

@@ -5,6 +5,7 @@ use console::Said;
 use console::answer;
 use console::command;
 use console::first;
+use console::part;
 use console::plainly;
 use console::put_row;
 use console::put_said;
@@ -35,26 +36,31 @@ pub fn unkept() -> Kept {
     }
 }
 
-// `line DEC HEX`, `strike DEC ID`, `load HEX`; any other is passed over.
+// A command that changes the register; any other is passed over.
 pub fn at_register(kept: Kept, order: Order, bytes: &[u8]) -> Kept {
     let command = order.command;
     let motors = kept.motors;
     let count = kept.count;
     match command {
-        command::LINE => after_call(
+        command::LINE | command::STRIKE | command::LOAD => after_call(
             count,
-            register::received(motors, count, order.small(0), bytes),
+            next(motors, count, order, bytes),
         ),
-        command::STRIKE => after_call(
-            count,
-            register::struck_out(motors, count, order.small(0), order.large(1)),
-        ),
-        command::LOAD => after_call(count, register::restored(motors, bytes)),
         _ => Kept {
             motors,
             count,
             said: plainly(answer::NO_ROW),
         },
+    }
+}
+
+// `line DEC HEX`, `strike DEC ID`, `load HEX`
+fn next(motors: [Motor; PLACES], count: usize, order: Order, bytes: &[u8]) -> Next {
+    let command = order.command;
+    match command {
+        command::LINE => register::received(motors, count, order.small(0), bytes),
+        command::STRIKE => register::struck_out(motors, count, order.small(0), order.large(1)),
+        _ => register::restored(motors, bytes),
     }
 }
 
@@ -110,17 +116,22 @@ fn places(count: usize) -> usize
 }
 
 fn put_motor(motor: Motor, out: &mut [u8; 65536], at: u16) -> u16 {
-    let whose = [motor.line, motor.node];
-    let behind = put_text(out, at, b"# @ ", &whose);
-    let reading = reading_of(motor);
-    if motor.mark == 0 {
-        return put_text(out, behind, b"-\n", &[NONE]);
-    }
-    put_text(out, behind, b"# # $\n", &reading)
+    let numbers = [
+        motor.line,
+        motor.node,
+        pulse_of(motor),
+        motor.percent as u32,
+        motor.ip as u32,
+    ];
+    let texts = b"# @ -\n;# @ # # $\n";
+    put_text(out, at, part(texts, b';', motor.mark as usize), &numbers)
 }
 
-fn reading_of(motor: Motor) -> [u32; 3] {
-    [motor.pulse as u32, motor.percent as u32, motor.ip as u32]
+fn pulse_of(motor: Motor) -> u32 {
+    if motor.mark == 0 {
+        return NONE;
+    }
+    motor.pulse as u32
 }
 
 fn put_form(motors: [Motor; PLACES], count: usize, out: &mut [u8; 65536], at: u16) -> u16 {

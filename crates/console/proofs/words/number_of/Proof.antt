@@ -6,10 +6,10 @@ use Rattle.console.proofs.words.number_of.Statement.{statement}
 use Rattle.console.proofs.words.number_of.Tie as tie
 
 abbrev Inv-loop : tie.InvT-loop
-Inv-loop word number₀ i₀ i-end number i = i ≤ i-end
+Inv-loop word base bytes₀ number₀ i₀ i-end bytes number i = i ≤ i-end
 
 abbrev μ-loop : tie.MeasureT-loop
-μ-loop word number₀ i₀ i-end number i = i-end - i
+μ-loop word base bytes₀ number₀ i₀ i-end bytes number i = i-end - i
 
 pub number-of-spec : {M : Type 1} → statement M
 number-of-spec =
@@ -21,9 +21,8 @@ number-of-spec =
     (λ c. search needs)
     (λ c κs. search needs)
     (λ c. search needs)
-    (λ c. search needs)
-    (λ c. search needs)
-    (λ c. search needs)
+    (λ c κs. search needs)
+    (λ c κs. search needs)
     (λ c. search needs)
     (λ c. search needs)
     (λ c. search needs)
