@@ -13,11 +13,10 @@ use node::Turn;
 
 // A command of the board, `frame HEX` among them.
 pub fn on_bus(shown: Shown, groups: [[u8; 3]; 16], order: Order, bytes: &[u8; 4096]) -> Shown {
-    let node = shown.node;
     if order.command != command::FRAME {
-        return at_board(node, order, bytes);
+        return at_board(shown.node, order, bytes);
     }
-    after_turn(node::on_frame(node, groups, order.hex(bytes)))
+    after_turn(node::on_frame(shown.node, groups, order.hex(bytes)))
 }
 
 // What a turn leads to.

@@ -106,10 +106,9 @@ fn after(node: Node, order: Order) -> After {
 
 // A refusal leaves the earlier board.
 fn told(node: Node, after: After, row: usize) -> Shown {
-    let made = after.node;
     let verdict = after.verdict;
     match verdict {
-        Verdict::Done => unchanged(made, plainly(row)),
+        Verdict::Done => unchanged(after.node, plainly(row)),
         Verdict::Refused(refusal) => unchanged(node, refused(refusal)),
     }
 }
@@ -123,9 +122,7 @@ pub fn put_board(
     at: u16,
 ) -> u16 {
     if order.command == command::STATE {
-        let node = shown.node;
-        return put_state(node, groups, out, at);
+        return put_state(shown.node, groups, out, at);
     }
-    let said = shown.said;
-    put_said(out, at, said)
+    put_said(out, at, shown.said)
 }

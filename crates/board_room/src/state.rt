@@ -1,10 +1,10 @@
 // The row of `state`: ten numbers of the motor and the lock, sixteen IPs, sixteen groups, the label.
 use board::Drive;
+use board::Favourites;
 use board::Ip;
 use board::Lock;
 use board::Motion;
 use board::Node;
-use board::Slot;
 use console::NONE;
 use console::answer;
 use console::plainly;
@@ -17,13 +17,9 @@ pub fn put_state(node: Node, groups: [[u8; 3]; 16], out: &mut [u8; 65536], at: u
     if !node.is_sound() {
         return put_said(out, at, plainly(answer::NO_NODE));
     }
-    let drive = node.drive;
-    let lock = node.lock;
-    let favourites = node.favourites;
-    let slots = favourites.slots;
+    let behind = put_motor(numbers(node.drive, node.lock), out, at);
+    let behind = put_tables(pulses(node.favourites), addresses(groups), out, behind);
     let label = node.label;
-    let behind = put_motor(numbers(drive, lock), out, at);
-    let behind = put_tables(pulses(slots), addresses(groups), out, behind);
     put_label(label, out, behind)
 }
 
@@ -73,7 +69,8 @@ fn target(motion: Motion) -> u32 {
     }
 }
 
-fn pulses(slots: [Slot; 16]) -> [u32; 16] {
+fn pulses(favourites: Favourites) -> [u32; 16] {
+    let slots = favourites.slots;
     let mut pulses = [NONE; 16];
     for i in 0..16 {
         let slot = slots[i];

@@ -86,11 +86,10 @@ fn after_call(held: usize, next: Next) -> Kept {
 pub fn put_register(kept: Kept, order: Order, out: &mut [u8; 65536], at: u16) -> u16 {
     let command = order.command;
     let motors = kept.motors;
-    let said = kept.said;
     match command {
         command::MOTORS => put_motors(motors, kept.count, out, at),
         command::STORE => put_form(motors, kept.count, out, at),
-        _ => put_said(out, at, said),
+        _ => put_said(out, at, kept.said),
     }
 }
 
