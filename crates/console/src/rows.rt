@@ -1,5 +1,5 @@
-// Rows of text in a lent buffer: each function writes from a place on and answers the place after. A place is one of the
-// buffer's by its type, and rows are written out long before they fill it.
+// Rows of text in a lent buffer: each function writes from a place on and answers the place after. A place is one of
+// the buffer's by its type, and rows are written out long before they fill it.
 use std::num::wrapping_add_u16;
 use std::num::wrapping_add_usize;
 ghost use Prim.Native.Nat.{_*_, _≤_};

@@ -1,5 +1,5 @@
-// Words, each up to a separator or the end, and what they stand for by their kind: a digit is HEX of so many bytes, `0` of
-// any number and `-` for none, and `t`, `s`, `m` and `l` are DEC up to 1, 255, 65,535 and 4,294,967,295.
+// Words, each up to a separator or the end, and what they stand for by their kind: a digit is HEX of so many bytes, `0`
+// of any number and `-` for none, and `t`, `s`, `m` and `l` are DEC up to 1, 255, 65,535 and 4,294,967,295.
 use check::same;
 use std::num::wrapping_add_usize;
 use std::num::wrapping_sub_u8;
