@@ -1,7 +1,7 @@
 // Pulses, percents and IP numbers, each counted apart, and the conversions between them (01, Position).
 ghost use mathlib.Core.Path.{_≡_};
 ghost use Prim.Native.Nat.{_*_, _<_, _≤_};
-ghost use Rattle.travel.specs.Nearest.{nearest};
+ghost use Rattle.travel.specs.Nearest.{nearest, IsNearestOfSpan};
 ghost use Rattle.travel.specs.Position.{percentOfPulse, pulseOfPercent};
 ghost use Rattle.travel.specs.Share.{shareOf};
 
@@ -20,7 +20,7 @@ pub fn percent_of_pulse(pulse: Pulse, travel: Pulse) -> Percent
     if pulse.0 >= travel.0 {
         return Percent(100);
     }
-    let percent = nearest(100 * (pulse.0 as u32), travel.0 as u32) as u8;
+    let percent = nearest_of_span(0, 100, 100 * (pulse.0 as u32), travel.0 as u32) as u8;
     Percent(percent)
 }
 
@@ -44,6 +44,27 @@ pub fn share_of(i: IpIndex, n: u8) -> Percent
     }
     let share = (100 * (i.0 as u16) / (n as u16 + 1)) as u8;
     Percent(share)
+}
+
+// The whole number of a span nearest to dividend ÷ divisor, halves up. The span is halved and products are compared,
+// since the board's processor has no divider; they stay below 2^24, and 0 to 100 take seven rounds at most.
+fn nearest_of_span(first: u32, last: u32, dividend: u32, divisor: u32) -> u32
+    requires { ⌜ (first ≤ last) × (last ≤ 100) × (dividend ≤ 100 * 65535) × (divisor ≤ 65535) ⌝ }
+    ensures { λ r. ⌜ IsNearestOfSpan first last dividend divisor r ⌝ }
+{
+    let reach = 2 * dividend + divisor;
+    let step = 2 * divisor;
+    let mut low = first;
+    let mut high = last;
+    while low < high {
+        let middle = (low + high + 1) / 2;
+        if step * middle <= reach {
+            low = middle;
+        } else {
+            high = middle - 1;
+        }
+    }
+    low
 }
 
 // dividend ÷ divisor to the nearest whole, halves up; up to 100 times the longest travel nothing wraps.
