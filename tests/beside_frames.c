@@ -1,7 +1,8 @@
 /*
- * Workloads of bundles: through the line reader, read and written, and to a
- * board.  Of the board there are two in C: the second program's, and the same
- * with the check of its state, row 33, that document 01 asks for at every call.
+ * Workloads of bundles: through the line reader, read and written, to a board,
+ * and to one that is asked for its position, pulse after pulse.  Of the board
+ * there are two in C: the second program's, and the same with the check of its
+ * state, row 33, that document 01 asks for at every call.
  *
  * beside.c takes this file in.
  */
@@ -9,6 +10,8 @@
 enum {
     SLOT = 32,
     SLOTS = 4096,
+    NAMES_PULSE = 32, /* above a slot's length: its last two bytes are a pulse */
+    PULSE_AT = 30,
     FRAME_WORTH = 256,
     OWN_ID = 0x050403,
     OWN_TYPE = 2,
@@ -26,7 +29,7 @@ struct settings {
 static const struct settings own = {OWN_ID, OWN_TYPE, OWN_TRAVEL};
 
 struct workload {
-    uint8_t slots[SLOT * SLOTS]; /* a bundle each: its length, then its bytes */
+    uint8_t slots[SLOT * SLOTS]; /* a bundle each: its length, then its bytes; of a board, where it comes to before */
     uint8_t bytes[SLOT * SLOTS]; /* the same bundles on a line */
     uint16_t silences[SLOT * SLOTS];
     size_t count;
@@ -123,6 +126,11 @@ static enum refusal checked_turn(struct board *board, const uint8_t *bundle, siz
     return bundle_to_board(board, bundle, count, sent);
 }
 
+static enum refusal checked_pulse(struct board *board, uint16_t pulse)
+{
+    return is_sound(board) ? at_pulse(board, pulse) : (enum refusal)BROKEN_BOARD;
+}
+
 /* As in the proved code, also of settings that row 32 refuses. */
 static struct board fresh_board(const struct settings *settings)
 {
@@ -133,16 +141,19 @@ static struct board fresh_board(const struct settings *settings)
     return board;
 }
 
+typedef enum refusal board_event(struct board *board, uint16_t pulse);
 typedef enum refusal board_turn(struct board *board, const uint8_t *bundle, size_t count, struct wire *sent);
 
-static inline uint64_t turns_of(const struct settings *settings, board_turn *turn)
+static inline uint64_t turns_of(const struct settings *settings, board_event *event, board_turn *turn)
 {
     uint64_t total = 0;
     struct board board = fresh_board(settings);
     for (const uint8_t *slot = work.slots; slot < work.slots + sizeof work.slots; slot += SLOT) {
         struct wire sent;
-        enum refusal refusal = turn(&board, slot + 1, slot[0], &sent);
-        total += refusal == ACCEPTED ? sent.count + sent.bytes[10] : (uint64_t)refusal;
+        if (slot[0] >= NAMES_PULSE)
+            event(&board, (uint16_t)(slot[PULSE_AT] | slot[PULSE_AT + 1] << 8));
+        enum refusal refusal = turn(&board, slot + 1, slot[0] % NAMES_PULSE, &sent);
+        total += refusal == ACCEPTED ? (uint64_t)sent.count + sent.bytes[10] + sent.bytes[11] : (uint64_t)refusal;
     }
     return total;
 }
@@ -158,9 +169,9 @@ static uint64_t over_turns(enum side side)
     case PROVED:
         return proved_turns(&own);
     case CHECKED:
-        return turns_of(&own, checked_turn);
+        return turns_of(&own, checked_pulse, checked_turn);
     default:
-        return turns_of(&own, plain_turn);
+        return turns_of(&own, at_pulse, plain_turn);
     }
 }
 
@@ -210,7 +221,46 @@ static bool same_refusals(void)
     };
     requests_to_board(0);
     for (size_t at = 0; at < sizeof refused / sizeof refused[0]; at++)
-        if (!are_same("row 33", CHECKED, proved_turns(&refused[at]), turns_of(&refused[at], checked_turn)))
+        if (!are_same("row 33", CHECKED, proved_turns(&refused[at]), turns_of(&refused[at], checked_pulse, checked_turn)))
             return false;
+    return true;
+}
+
+/* ------------------------------------------------------------------------
+ * Position reports
+ * ------------------------------------------------------------------------ */
+
+/* P3, a 0Ch from FF:FF:00 to 05:04:03 of type 2, to a board that has come to a pulse. */
+static void put_position_request(size_t number, uint16_t pulse)
+{
+    static const uint8_t request[] = {0xF3, 0xF4, 0xFD, 0xFF, 0x00, 0x00, 0xFC, 0xFB, 0xFA, 0x06, 0xD4};
+    uint8_t *slot = work.slots + SLOT * number;
+    slot[0] = NAMES_PULSE + sizeof request;
+    memcpy(slot + 1, request, sizeof request);
+    slot[PULSE_AT] = (uint8_t)pulse;
+    slot[PULSE_AT + 1] = (uint8_t)(pulse >> 8);
+}
+
+/* Pulses of the whole travel, in no order. */
+static void position_requests(uint32_t motors)
+{
+    (void)motors;
+    for (size_t number = 0; number < SLOTS; number++)
+        put_position_request(number, (uint16_t)below(&script, OWN_TRAVEL + 1));
+}
+
+/* Every pulse of some travels, with halves and without, the shortest and the longest among them. */
+static bool same_percents(void)
+{
+    static const uint16_t travels[] = {TRAVEL_LEAST, TRAVEL_LEAST + 1, 200, 201, OWN_TRAVEL, 4096, 32768, UINT16_MAX};
+    for (size_t at = 0; at < sizeof travels / sizeof travels[0]; at++) {
+        struct settings settings = {OWN_ID, OWN_TYPE, travels[at]};
+        for (uint32_t first = 0; first <= travels[at]; first += SLOTS) {
+            for (uint32_t number = 0; number < SLOTS; number++)
+                put_position_request(number, (uint16_t)(first + number));
+            if (!are_same("percents", CHECKED, proved_turns(&settings), turns_of(&settings, checked_pulse, checked_turn)))
+                return false;
+        }
+    }
     return true;
 }

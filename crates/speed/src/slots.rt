@@ -1,4 +1,5 @@
-// A workload of bundles: a slot of 32 bytes for each, its length and then its bytes.
+// A workload of bundles: a slot of 32 bytes for each, its length and then its bytes. Where 32 stands above the length, the slot's last two bytes name a
+// pulse, low byte first.
 ghost use Prim.Native.Nat.{_≤_, _+_};
 ghost use lib.ListN.{length};
 
@@ -18,8 +19,16 @@ pub(crate) fn bundle(slots: &[u8], at: usize) -> &[u8]
 fn length(byte: u8) -> usize
     ensures { λ r. ⌜ r ≤ 31 ⌝ }
 {
-    if byte > 31 {
-        return 31;
-    }
-    byte as usize
+    (byte % 32) as usize
+}
+
+pub(crate) fn names_pulse(byte: u8) -> bool {
+    byte >= 32
+}
+
+// The pulse of the slot that begins at a place.
+pub(crate) fn pulse(slots: &[u8], at: usize) -> u16
+    requires { ⌜ at + 32 ≤ length (now slots) ⌝ }
+{
+    frame::word(slots[at + 30], slots[at + 31])
 }
