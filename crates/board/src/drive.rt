@@ -127,12 +127,11 @@ impl Drive {
         }
     }
 
-    pub fn unblocked(self) -> Drive
+    pub fn unblocked(mut self) -> Drive
         ensures { λ r. ⌜ r ≡ unblocked self ⌝ }
     {
-        let mut drive = self;
-        drive.blocked = false;
-        drive
+        self.blocked = false;
+        self
     }
 
     pub fn powered_up(self) -> Drive

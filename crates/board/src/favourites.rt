@@ -45,7 +45,7 @@ impl Favourites {
     }
 
     // One IP set or deleted; a number that is none of 1 to 16 changes nothing.
-    pub fn with_ip(self, index: IpIndex, ip: Ip) -> Favourites
+    pub fn with_ip(mut self, index: IpIndex, ip: Ip) -> Favourites
         ensures { λ r. ⌜ r ≡ withIp self index ip ⌝ }
     {
         if index.0 < 1 {
@@ -55,9 +55,8 @@ impl Favourites {
             return self;
         }
         let place = (index.0 - 1) as usize;
-        let mut favourites = self;
-        favourites.slots[place] = Slot { ip };
-        favourites
+        self.slots[place] = Slot { ip };
+        self
     }
 
     // SET_MOTOR_IP, function 4: IPs 1 to n share the travel, the rest become unset.

@@ -56,12 +56,11 @@ impl Lock {
         }
     }
 
-    pub fn saving(self, saved: bool) -> Lock
+    pub fn saving(mut self, saved: bool) -> Lock
         ensures { λ r. ⌜ r ≡ saving self saved ⌝ }
     {
-        let mut lock = self;
-        lock.saved = saved;
-        lock
+        self.saved = saved;
+        self
     }
 
     // Dropped and zeroed unless saved.

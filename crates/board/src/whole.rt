@@ -70,35 +70,31 @@ impl Node {
         0
     }
 
-    pub fn with_drive(self, drive: Drive) -> Node
+    pub fn with_drive(mut self, drive: Drive) -> Node
         ensures { λ r. ⌜ r ≡ withDrive self drive ⌝ }
     {
-        let mut node = self;
-        node.drive = drive;
-        node
+        self.drive = drive;
+        self
     }
 
-    pub fn with_favourites(self, favourites: Favourites) -> Node
+    pub fn with_favourites(mut self, favourites: Favourites) -> Node
         ensures { λ r. ⌜ r ≡ withFavourites self favourites ⌝ }
     {
-        let mut node = self;
-        node.favourites = favourites;
-        node
+        self.favourites = favourites;
+        self
     }
 
-    pub fn with_lock(self, lock: Lock) -> Node
+    pub fn with_lock(mut self, lock: Lock) -> Node
         ensures { λ r. ⌜ r ≡ withLock self lock ⌝ }
     {
-        let mut node = self;
-        node.lock = lock;
-        node
+        self.lock = lock;
+        self
     }
 
-    pub fn with_label(self, label: [u8; 16]) -> Node
+    pub fn with_label(mut self, label: [u8; 16]) -> Node
         ensures { λ r. ⌜ r ≡ withLabel self label ⌝ }
     {
-        let mut node = self;
-        node.label = label;
-        node
+        self.label = label;
+        self
     }
 }

@@ -76,15 +76,14 @@ impl Order {
     }
 
     // With one word more; a malformed one makes it a bad line.
-    fn with(self, which: usize, value: u64, count: usize) -> Order {
-        let mut order = self;
+    fn with(mut self, which: usize, value: u64, count: usize) -> Order {
         let place = which % 8;
-        order.numbers[place] = (value % MALFORMED) as u32;
-        order.count = count;
+        self.numbers[place] = (value % MALFORMED) as u32;
+        self.count = count;
         if value == MALFORMED {
-            order.command = BAD;
+            self.command = BAD;
         }
-        order
+        self
     }
 }
 

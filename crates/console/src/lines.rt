@@ -23,16 +23,15 @@ impl Input {
     }
 
     // The next line, or as much of it as the chunk has; a chunk that is used up is read anew.
-    pub fn more(self, chunk: &mut [u8; 65536], line: &mut [u8; 8194]) -> Input {
-        let mut input = self;
-        if input.next >= input.have {
-            input.have = read_some(chunk);
-            input.next = 0;
+    pub fn more(mut self, chunk: &mut [u8; 65536], line: &mut [u8; 8194]) -> Input {
+        if self.next >= self.have {
+            self.have = read_some(chunk);
+            self.next = 0;
         }
-        if input.ended {
-            input.held = 0;
+        if self.ended {
+            self.held = 0;
         }
-        take_line(input, first(chunk, input.have), line)
+        take_line(self, first(chunk, self.have), line)
     }
 
     // The line; none, as if it was empty, where it goes on. At the end of the input it may lack its line feed.
