@@ -1,5 +1,5 @@
-// A workload of bundles: a slot of 32 bytes for each, its length and then its bytes. Where 32 stands above the length, the slot's last two bytes name a
-// pulse, low byte first.
+// A workload of bundles: a slot of 32 bytes for each, its length and then its bytes. Where 32 is added to the length,
+// the slot's last two bytes name a pulse, low byte first.
 ghost use Prim.Native.Nat.{_≤_, _+_};
 ghost use lib.ListN.{length};
 

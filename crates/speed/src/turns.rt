@@ -12,7 +12,8 @@ use node::Reply;
 use std::num::wrapping_add_u64;
 use travel::Pulse;
 
-// A board takes slot after slot, at the pulse that some name: the sum of the replies' bytes counted, of two bytes of each, and of the refusals' numbers.
+// A board takes slot after slot, at the pulse that some name: the sum of the replies' bytes counted, of two bytes of
+// each, and of the refusals' numbers.
 #[no_mangle]
 pub extern "C" fn speed_board(slots: &[u8], id: u32, kind: u8, travel: u16) -> u64 {
     let mut node = powered_up(id, kind, travel);
