@@ -1,6 +1,6 @@
 -- STOP, MOVETO, position and status (document 01, under the message table).
 -- Assumes nothing.
-use Prim.Native.Nat.{ℕ, _+_}
+use Prim.Native.Nat.{ℕ}
 use mathlib.Core.Bool.{Bool, true, false}
 use mathlib.Core.List.{List, [], _∷_, _++_}
 use lib.Dec.{eqb, leb}
@@ -10,7 +10,7 @@ use Rattle.meaning.specs.Tests.{succeeds, fails}
 use Rattle.travel.specs.Units.{pulse, percent, ip}
 use Rattle.travel.specs.Position.{percentOfPulse, pulseOfPercent}
 use Rattle.board.specs.Drive.{halted, movedTo}
-use Rattle.board.specs.Favourites.{ipAt, isSet, pulseOf, reportedIp}
+use Rattle.board.specs.Favourites.{isNumber, ipAt, isSet, pulseOf, reportedIp}
 use Rattle.board.specs.Node.{withDrive, statusOf}
 use Rattle.board.specs.declared.favourites.Ip.{Ip}
 use Rattle.board.specs.declared.favourites.Ip.the-variants.{Unset, At}
@@ -37,9 +37,9 @@ stopped n = acts (withDrive n (halted (n .drive))) Keep
 unfoldable pub stopRow : Node → List ℕ → Outcome
 stopRow n d = refusing n (stopCodes n d) (stopped n)
 
--- MOVETO function 2, to IP: position 0..15 naming IP position + 1.
+-- MOVETO function 2, to IP: position 1..16, the number that SET_MOTOR_IP gives it (2026-03).
 abbrev pub toIp : (position : ℕ) → Aim
-toIp position = if leb position 15 then ToIp (ip (position + 1)) else Nowhere
+toIp position = if isNumber (ip position) then ToIp (ip position) else Nowhere
 
 -- Function 4: percent 0..100.
 abbrev pub toPercent : (position : ℕ) → Aim

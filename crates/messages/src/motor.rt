@@ -122,10 +122,13 @@ fn aim_of(function: u8, position: u16) -> Aim
 fn to_ip(position: u16) -> Aim
     ensures { λ r. ⌜ r ≡ toIp position ⌝ }
 {
-    if position > 15 {
+    if position < 1 {
         return Aim::Nowhere;
     }
-    Aim::ToIp(IpIndex(position as u8 + 1))
+    if position > 16 {
+        return Aim::Nowhere;
+    }
+    Aim::ToIp(IpIndex(position as u8))
 }
 
 fn to_percent(position: u16) -> Aim

@@ -1,6 +1,6 @@
 -- The codes of each message: its table says the same as the message table's own tests.
 -- Assumes nothing.
-use Prim.Native.Nat.{ℕ, _+_, _≤_, _<_}
+use Prim.Native.Nat.{ℕ, _≤_, _<_}
 use native.Mathlib.Omega.{arith}
 use mathlib.Core.Path.{_≡_, refl, _∙_, sym, ap}
 use mathlib.Core.Logic.{_≢_, _↔_, _⊎_, inl, inr, ⊎-elim}
@@ -125,13 +125,13 @@ a-move-exactly-when function position = (to, from)
     to : IsAMove function position → isAim (aimOf function position) ≡ true
     to (inl f) = rw f
     to (inr (inl f)) = rw f
-    to (inr (inr (inl (f, h)))) = rw (f, le-leb position 15 h)
+    to (inr (inr (inl (f, (l, u))))) = rw (f, le-leb 1 position l, le-leb position 16 u)
     to (inr (inr (inr (f, h)))) = rw (f, le-leb position 100 h)
 
     to-an-ip : eqb function 2 ≡ true → isAim (aimOf function position) ≡ true → IsAMove function position
     to-an-ip t e =
         let f = eqb-true function 2 t in
-        by-test (leb position 15) (λ u. inr (inr (inl (f, leb-true position 15 u)))) (λ u. absurd (false≢true (rw (f, u) at e)))
+        by-test (isNumber (ip position)) (λ i. inr (inr (inl (f, is-number position .1 i)))) (λ i. absurd (false≢true (rw (f, i) at e)))
 
     to-a-percent : eqb function 4 ≡ true → isAim (aimOf function position) ≡ true → IsAMove function position
     to-a-percent t e =
@@ -147,13 +147,13 @@ a-move-exactly-when function position = (to, from)
 
 -- Of a move, only the one to an IP can lack its target.
 no-target : (n : Node) (function position : ℕ) → IsAMove function position
-    → (isSet (targetOf n (aimOf function position)) ≡ false) ↔ ((function ≡ 2) × (ipOf (n .favourites) (position + 1) ≡ Unset))
+    → (isSet (targetOf n (aimOf function position)) ≡ false) ↔ ((function ≡ 2) × (ipOf (n .favourites) position ≡ Unset))
 no-target n function position (inl f) = (λ e. absurd (false≢true (sym (rw f at e))), λ (two, u). absurd (omega (arith, f, two)))
 no-target n function position (inr (inl f)) = (λ e. absurd (false≢true (sym (rw f at e))), λ (two, u). absurd (omega (arith, f, two)))
-no-target n function position (inr (inr (inl (f, h)))) =
-    let at : targetOf n (aimOf function position) ≡ ipOf (n .favourites) (position + 1) =
-    rw (f, le-leb position 15 h) (ip-at-is (n .favourites) (position + 1) (omega arith) (omega arith)) in
-    (λ e. (f, not-set (ipOf (n .favourites) (position + 1)) .0 (sym (ap isSet at) ∙ e)), λ (two, u). ap isSet at ∙ ap isSet u)
+no-target n function position (inr (inr (inl (f, (l, u))))) =
+    let at : targetOf n (aimOf function position) ≡ ipOf (n .favourites) position =
+    rw (f, le-leb 1 position l, le-leb position 16 u) (ip-at-is (n .favourites) position l u) in
+    (λ e. (f, not-set (ipOf (n .favourites) position) .0 (sym (ap isSet at) ∙ e)), λ (two, unset). ap isSet at ∙ ap isSet unset)
 no-target n function position (inr (inr (inr (f, h)))) =
     (λ e. absurd (false≢true (sym (rw (f, le-leb position 100 h) at e))), λ (two, u). absurd (omega (arith, f, two)))
 

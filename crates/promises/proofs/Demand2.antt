@@ -30,6 +30,7 @@ use Rattle.promises.proofs.GroupTable.{group-table}
 use Rattle.promises.proofs.Events.{events}
 use Rattle.promises.proofs.Codes.{codes}
 use Rattle.promises.proofs.Effects.{effects}
+use Rattle.promises.proofs.Called.{called}
 use Rattle.promises.proofs.Answers.{answers}
 use Rattle.promises.proofs.Example.{example}
 use Rattle.promises.proofs.Register.{register}
@@ -53,6 +54,7 @@ board =
       events = events;
       which-code-refuses-a-message = codes;
       sixteen-IPs = sixteen-ips;
+      an-IP-is-called-by-its-number = called;
       fitting = fitting;
       what-a-message-does = effects;
       an-example = example;

@@ -1,6 +1,6 @@
 -- What an accepted message does to the board, row by row of the message table.
 -- Assumes nothing.
-use Prim.Native.Nat.{ℕ, _+_, _-_, _≤_, _<_}
+use Prim.Native.Nat.{ℕ, _-_, _≤_, _<_}
 use native.Mathlib.Omega.{arith}
 use mathlib.Core.Path.{_≡_, refl, _∙_, sym, ap, subst}
 use mathlib.Core.Logic.{_≢_, inl, inr}
@@ -62,11 +62,11 @@ use Rattle.promises.proofs.Codes.{
 }
 
 -- ---- 03h
-position-to-15 : (function position : ℕ) → IsAMove function position → function ≡ 2 → position ≤ 15
-position-to-15 function position (inl f) two = absurd (omega (arith, f, two))
-position-to-15 function position (inr (inl f)) two = absurd (omega (arith, f, two))
-position-to-15 function position (inr (inr (inl (f, h)))) two = h
-position-to-15 function position (inr (inr (inr (f, h)))) two = absurd (omega (arith, f, two))
+position-from-1-to-16 : (function position : ℕ) → IsAMove function position → function ≡ 2 → (1 ≤ position) × (position ≤ 16)
+position-from-1-to-16 function position (inl f) two = absurd (omega (arith, f, two))
+position-from-1-to-16 function position (inr (inl f)) two = absurd (omega (arith, f, two))
+position-from-1-to-16 function position (inr (inr (inl (f, h)))) two = h
+position-from-1-to-16 function position (inr (inr (inr (f, h)))) two = absurd (omega (arith, f, two))
 
 position-to-100 : (function position : ℕ) → IsAMove function position → function ≡ 4 → position ≤ 100
 position-to-100 function position (inl f) four = absurd (omega (arith, f, four))
@@ -79,8 +79,8 @@ aims-at : (n : Node) (d : List ℕ) → IsAMove (byteAt d 0) (wordAt d 1) → (t
 aims-at n d move target (down f) = rw f
 aims-at n d move target (up f) = rw f
 aims-at n d move target (to-IP f i) =
-    let most = position-to-15 (byteAt d 0) (wordAt d 1) move f in
-    rw (f, le-leb (wordAt d 1) 15 most) (ip-at-is (n .favourites) (wordAt d 1 + 1) (omega arith) (omega arith) ∙ i)
+    let (least, most) = position-from-1-to-16 (byteAt d 0) (wordAt d 1) move f in
+    rw (f, le-leb 1 (wordAt d 1) least, le-leb (wordAt d 1) 16 most) (ip-at-is (n .favourites) (wordAt d 1) least most ∙ i)
 aims-at n d move target (to-percent f) = rw (f, le-leb (wordAt d 1) 100 (position-to-100 (byteAt d 0) (wordAt d 1) move f))
 
 -- An accepted MOVETO is a move, of a motor that is not blocked.
@@ -94,14 +94,14 @@ accepted-move n d none =
     )
 
 -- ---- 15h
-accepted-order : (n : Node) (d : List ℕ) → Accepted (setIpRows n d) → SetsAnIp (byteAt d 0) (byteAt d 1) (wordAt d 2)
+pub accepted-order : (n : Node) (d : List ℕ) → Accepted (setIpRows n d) → SetsAnIp (byteAt d 0) (byteAt d 1) (wordAt d 2)
 accepted-order n d none =
     let ordered = behind (λ e. omega arith) (behind (λ e. omega arith) none .1) .0 in
     let decided = an-order-exactly-when (byteAt d 0) (byteAt d 1) (wordAt d 2) in
     decided .1 (not-false-is-true _ (λ e. ordered (λ sets. false≢true (sym e ∙ decided .0 sets))))
 
 -- Functions 0, 1 and 3 name one of the sixteen, and 3 a percent; 4 has a count.
-names-an-ip : (function index value : ℕ) → SetsAnIp function index value → function ≢ 4 → (1 ≤ index) × (index ≤ 16)
+pub names-an-ip : (function index value : ℕ) → SetsAnIp function index value → function ≢ 4 → (1 ≤ index) × (index ≤ 16)
 names-an-ip function index value (inl (four, k)) other = absurd (other four)
 names-an-ip function index value (inr (i, f)) other = i
 

@@ -55,7 +55,7 @@ accepted =
     (passes (λ (no-move : ¬ IsAMove 0 0). no-move (inl refl))
     (passes (λ (locked : false ≡ true). false≢true locked)
     (passes (λ (blocked : false ≡ true). false≢true blocked)
-    (passes (λ (to-an-ip : (_≡_ {A = ℕ} 0 2) × (ipOf noIps 1 ≡ Unset)). omega (arith, to-an-ip .0))
+    (passes (λ (to-an-ip : (_≡_ {A = ℕ} 0 2) × (ipOf noIps 0 ≡ Unset)). omega (arith, to-an-ip .0))
     (none-applies refl)))))
 
 pub example : Example

@@ -16,6 +16,7 @@ pub mod First
 pub mod Turns
 pub mod Codes
 pub mod Effects
+pub mod Called
 pub mod Answers
 pub mod Example
 pub mod ReportBytes

@@ -4,10 +4,21 @@ use mathlib.Core.Path.{refl}
 use Rattle.meaning.specs.Every.{every}
 use Rattle.frame.specs.{Reading.{readingOf}, Writing.{writingOf}}
 use Rattle.board.specs.{Favourites.{ipsWithin}, Groups.{inTable}}
-use Rattle.messages.specs.{Identity.{firstOf, serialRow, versionRow}, Table.{outcomeOf}}
+use Rattle.travel.specs.Position.{percentOfPulse, pulseOfPercent}
+use Rattle.messages.specs.{Identity.{firstOf, serialRow, versionRow}, Ips.{setIpRow}, Motor.{moveRow}, Table.{outcomeOf}}
 use Rattle.node.specs.{Replies.{replyTo}, Meant.{meant}, Frames.{turnOf}}
 use Rattle.promises.specs.Figures.{AllHold}
-use Rattle.promises.specs.RequestFigures.{R01-serial, R01-asked, R01-told, R01-version, requestFigures}
+use Rattle.promises.specs.RequestFigures.{
+  R01-serial,
+  R01-asked,
+  R01-told,
+  R01-version,
+  R02-halves,
+  R03-stored,
+  R03-called,
+  R03-refused,
+  requestFigures,
+}
 
 serial : R01-serial
 serial = refl
@@ -24,5 +35,21 @@ version : R01-version
 unfolding readingOf writingOf ipsWithin every replyTo outcomeOf versionRow inTable meant turnOf
 version = refl
 
+halves : R02-halves
+unfolding percentOfPulse
+halves = (refl, refl)
+
+stored : R03-stored
+unfolding pulseOfPercent readingOf writingOf ipsWithin every replyTo outcomeOf setIpRow inTable meant turnOf
+stored = refl
+
+by-number : R03-called
+unfolding readingOf writingOf ipsWithin every replyTo outcomeOf moveRow inTable meant turnOf
+by-number = (refl, refl)
+
+out-of-range : R03-refused
+unfolding readingOf writingOf ipsWithin every replyTo outcomeOf moveRow inTable meant turnOf
+out-of-range = (refl, refl, refl)
+
 pub all-hold : AllHold requestFigures
-all-hold = (serial, (asked, (told, (version, tt))))
+all-hold = (serial, (asked, (told, (version, (halves, (stored, (by-number, (out-of-range, tt))))))))

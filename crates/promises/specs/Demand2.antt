@@ -14,6 +14,7 @@ pub mod Favourites
 pub mod Fitting
 pub mod Labels
 pub mod Effects
+pub mod Called
 pub mod Answers
 pub mod Example
 pub mod Board

@@ -1,14 +1,43 @@
 -- The worked figures of the change requests (document 02), in bytes and numbers: one list, one statement.
 -- Assumes nothing.
-use Prim.Native.Nat.{ℕ}
+use Prim.Native.Nat.{ℕ, _-_}
 use mathlib.Core.Path.{_≡_}
-use mathlib.Core.List.{List, [], _∷_, _++_}
-use lib.ListN.{replicate}
+use mathlib.Core.Bool.{true, false}
+use mathlib.Core.List.{List, [], _∷_, _++_, map}
+use lib.ListN.{length, replicate}
+use Rattle.travel.specs.Position.{percentOfPulse}
 use Rattle.serial.specs.Serial.{serialOf}
-use Rattle.board.specs.declared.{groups.Change.the-variants.{Keep}, whole.Node.{Node}}
-use Rattle.node.specs.{Frames.{turnOf}, declared.turn.Answer.the-variants.{Replied}}
-use Rattle.promises.specs.BoardParts.{address, pulse, plate, emptyTable, freshNode}
+use Rattle.board.specs.declared.{
+  drive.Motion.the-variants.{Running},
+  favourites.Ip.the-variants.{Unset, At},
+  groups.Change.the-variants.{Keep},
+  whole.Node.{Node},
+}
+use Rattle.node.specs.{Frames.{turnOf}, declared.turn.{Answer.the-variants.{Replied}, Turn.{Turn}}}
+use Rattle.promises.specs.BoardParts.{
+  address,
+  pulse,
+  plate,
+  drive,
+  lock,
+  slot,
+  emptyTable,
+  withDrive,
+  withFavourites,
+  withLock,
+  freshNode,
+}
 use Rattle.promises.specs.Figures.{header, sent}
+
+-- A turn that ends with this board, its table as it was, and replies these bytes, zeros behind them to the 31st.
+abbrev pub replies : Node → List ℕ → Turn
+replies n reply =
+    record {
+      node = n;
+      change = Keep;
+      answer = Replied;
+      reply = record { count = length reply; bytes = reply ++ replicate (31 - length reply) 0 };
+    }
 
 -- 2026-01: GD, 2009, week 45.
 abbrev pub made : List ℕ
@@ -39,14 +68,7 @@ serialTold =
     ∷ 0x0F ∷ 0xC1 ∷ []
 
 abbrev pub R01-told : Type 0
-R01-told =
-    turnOf plated emptyTable getSerial
-    ≡ record {
-      node = plated;
-      change = Keep;
-      answer = Replied;
-      reply = record { count = 23; bytes = serialTold ++ replicate 8 0 };
-    }
+R01-told = turnOf plated emptyTable getSerial ≡ replies plated serialTold
 
 -- 2026-01: 003's reference 5063486, A, 02, low byte first: GET version, 74h, asked like the above, and its 75h: 17 bytes, then
 -- zeros.
@@ -63,14 +85,78 @@ versionTold =
     ∷ 0xC1 ∷ 0xBC ∷ 0xB2 ∷ 0xBE ∷ 0xFD ∷ 0x00 ∷ 0x0A ∷ 0x37 ∷ []
 
 abbrev pub R01-version : Type 0
-R01-version =
-    turnOf versioned emptyTable getVersion
-    ≡ record {
-      node = versioned;
-      change = Keep;
-      answer = Replied;
-      reply = record { count = 17; bytes = versionTold ++ replicate 14 0 };
-    }
+R01-version = turnOf versioned emptyTable getVersion ≡ replies versioned versionTold
+
+-- 2026-02: the percents of pulses about a half, at both ends of a travel of 1,000, and of 65,535.
+abbrev pub percents : (travel : ℕ) → (pulses : List ℕ) → List ℕ
+percents travel = map (λ (p : ℕ). percentOfPulse (pulse p) (pulse travel) .0)
+
+abbrev pub R02-halves : Type 0
+R02-halves =
+    (percents 1000 (4 ∷ 5 ∷ 994 ∷ 995 ∷ []) ≡ 0 ∷ 1 ∷ 99 ∷ 100 ∷ [])
+    × (percents 65535 (327 ∷ 328 ∷ 65207 ∷ 65208 ∷ []) ≡ 0 ∷ 1 ∷ 99 ∷ 100 ∷ [])
+
+-- 2026-03: the board of the serial number, of travel 1,000, with one IP set, at pulse 400.
+abbrev pub first : Node
+first = withFavourites plated (record { slots = slot (At (pulse 400)) ∷ replicate 15 (slot Unset) })
+
+abbrev pub last : Node
+last = withFavourites plated (record { slots = replicate 15 (slot Unset) ++ (slot (At (pulse 400)) ∷ []) })
+
+-- 2026-03: it runs there, from pulse 0, down.
+abbrev pub running : Node → Node
+running n = withDrive n (drive (pulse 0) (Running (pulse 400)) 0 1 1 false)
+
+-- 2026-03: SET_MOTOR_IP, 15h, function 3, index 1, 40 percent, with the ACK bit; and its 7Fh.
+abbrev pub storeFirst : List ℕ
+storeFirst =
+    0xEA ∷ 0x70 ∷ 0xFD ∷ 0xFF ∷ 0x00 ∷ 0x00 ∷ 0xFC ∷ 0xFD ∷ 0xFE ∷ 0xFC ∷ 0xFE ∷ 0xD7 ∷ 0xFF ∷ 0x0A ∷ 0x1D ∷ []
+
+abbrev pub done : List ℕ
+done = 0x80 ∷ 0xF4 ∷ 0xDF ∷ 0xFC ∷ 0xFD ∷ 0xFE ∷ 0xFF ∷ 0x00 ∷ 0x00 ∷ 0x06 ∷ 0x49 ∷ []
+
+abbrev pub R03-stored : Type 0
+R03-stored = turnOf plated emptyTable storeFirst ≡ replies first done
+
+-- 2026-03: MOVETO, 03h, function 2, with the ACK bit: position 1, and 16.
+abbrev pub callFirst : List ℕ
+callFirst =
+    0xFC ∷ 0x70 ∷ 0xFD ∷ 0xFF ∷ 0x00 ∷ 0x00 ∷ 0xFC ∷ 0xFD ∷ 0xFE ∷ 0xFD ∷ 0xFE ∷ 0xFF ∷ 0xFF ∷ 0x0A ∷ 0x58 ∷ []
+
+abbrev pub callLast : List ℕ
+callLast =
+    0xFC ∷ 0x70 ∷ 0xFD ∷ 0xFF ∷ 0x00 ∷ 0x00 ∷ 0xFC ∷ 0xFD ∷ 0xFE ∷ 0xFD ∷ 0xEF ∷ 0xFF ∷ 0xFF ∷ 0x0A ∷ 0x49 ∷ []
+
+abbrev pub R03-called : Type 0
+R03-called =
+    (turnOf first emptyTable callFirst ≡ replies (running first) done)
+    × (turnOf last emptyTable callLast ≡ replies (running last) done)
+
+-- 2026-03: positions 0, 17 and 257 on a locked board, and their 6Fh with code 01h.
+abbrev pub callNone : List ℕ
+callNone =
+    0xFC ∷ 0x70 ∷ 0xFD ∷ 0xFF ∷ 0x00 ∷ 0x00 ∷ 0xFC ∷ 0xFD ∷ 0xFE ∷ 0xFD ∷ 0xFF ∷ 0xFF ∷ 0xFF ∷ 0x0A ∷ 0x59 ∷ []
+
+abbrev pub callBeyond : List ℕ
+callBeyond =
+    0xFC ∷ 0x70 ∷ 0xFD ∷ 0xFF ∷ 0x00 ∷ 0x00 ∷ 0xFC ∷ 0xFD ∷ 0xFE ∷ 0xFD ∷ 0xEE ∷ 0xFF ∷ 0xFF ∷ 0x0A ∷ 0x48 ∷ []
+
+abbrev pub callFarBeyond : List ℕ
+callFarBeyond =
+    0xFC ∷ 0x70 ∷ 0xFD ∷ 0xFF ∷ 0x00 ∷ 0x00 ∷ 0xFC ∷ 0xFD ∷ 0xFE ∷ 0xFD ∷ 0xFE ∷ 0xFE ∷ 0xFF ∷ 0x0A ∷ 0x57 ∷ []
+
+abbrev pub outOfRange : List ℕ
+outOfRange = 0x90 ∷ 0xF3 ∷ 0xDF ∷ 0xFC ∷ 0xFD ∷ 0xFE ∷ 0xFF ∷ 0x00 ∷ 0x00 ∷ 0xFE ∷ 0x07 ∷ 0x56 ∷ []
+
+abbrev pub held : Node
+held = withLock first (lock true (address 0xFFFF00) 1 false)
+
+abbrev pub R03-refused : Type 0
+R03-refused =
+    (turnOf held emptyTable callNone ≡ replies held outOfRange)
+    × (turnOf held emptyTable callBeyond ≡ replies held outOfRange)
+    × (turnOf held emptyTable callFarBeyond ≡ replies held outOfRange)
 
 abbrev pub requestFigures : List (Type 0)
-requestFigures = R01-serial ∷ R01-asked ∷ R01-told ∷ R01-version ∷ []
+requestFigures =
+    R01-serial ∷ R01-asked ∷ R01-told ∷ R01-version ∷ R02-halves ∷ R03-stored ∷ R03-called ∷ R03-refused ∷ []

@@ -34,6 +34,7 @@ use Rattle.promises.specs.Rows.{_when_, FirstOf}
 use Rattle.promises.specs.Demand2.Events.{GroupTable, Events}
 use Rattle.promises.specs.Demand2.Codes.{Codes}
 use Rattle.promises.specs.Demand2.Effects.{Arrives, Effects}
+use Rattle.promises.specs.Demand2.Called.{Called}
 use Rattle.promises.specs.Demand2.Example.{Example}
 use Rattle.promises.specs.Demand2.Favourites.{SixteenIps}
 use Rattle.promises.specs.Demand2.Fitting.{Fitting}
@@ -102,4 +103,6 @@ pub record Board : Type 1 where
   pub what-a-GET-is-answered :
       (n : Node) (g : Groups) (b : List ℕ) → Arrives n g b → Typed n → TypedTable g → Answers n g b (turnOf n g b)
   pub sixteen-IPs : SixteenIps
+  -- favourite 1 goes to favourite 1
+  pub an-IP-is-called-by-its-number : Called
   pub fitting : Fitting

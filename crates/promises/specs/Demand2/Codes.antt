@@ -1,7 +1,7 @@
 -- Demand 2, the board: which code refuses a message, and when (document 01, under the message table, and 2026-01). Each table has
 -- the codes of one message in order of checking.
 -- Assumes nothing.
-use Prim.Native.Nat.{ℕ, _+_, _≤_, _<_}
+use Prim.Native.Nat.{ℕ, _≤_, _<_}
 use mathlib.Core.Path.{_≡_}
 use mathlib.Core.Logic.{_≢_, _⊎_}
 use mathlib.Core.Bool.{true}
@@ -24,12 +24,12 @@ messages = 0x02 ∷ 0x03 ∷ 0x0C ∷ 0x0E ∷ 0x15 ∷ 0x25 ∷ 0x16 ∷ 0x26 �
 abbrev pub stopRows : Node → List ℕ → List Row
 stopRows n d = 0x11 when (length d < 1) ∷ 0x20 when (n .lock .locked ≡ true) ∷ []
 
--- MOVETO's function and position: 0 down, 1 up, 2 to an IP with position 0 to 15, 4 a percent of 0 to 100.
+-- MOVETO's function and position: 0 down, 1 up, 2 to the IP of number 1 to 16 (2026-03), 4 a percent of 0 to 100.
 abbrev pub IsAMove : (function position : ℕ) → Type 0
 IsAMove function position =
     (function ≡ 0)
     ⊎ ((function ≡ 1)
-    ⊎ (((function ≡ 2) × (position ≤ 15))
+    ⊎ (((function ≡ 2) × ((1 ≤ position) × (position ≤ 16)))
     ⊎ ((function ≡ 4) × (position ≤ 100))))
 
 -- 03h MOVETO: function, position in two bytes.
@@ -39,7 +39,7 @@ moveRows n d =
     ∷ 0x01 when (¬ IsAMove (byteAt d 0) (wordAt d 1))
     ∷ 0x20 when (n .lock .locked ≡ true)
     ∷ 0xFF when (n .drive .blocked ≡ true)
-    ∷ 0x23 when ((byteAt d 0 ≡ 2) × (ipOf (n .favourites) (wordAt d 1 + 1) ≡ Unset))
+    ∷ 0x23 when ((byteAt d 0 ≡ 2) × (ipOf (n .favourites) (wordAt d 1) ≡ Unset))
     ∷ []
 
 -- SET_MOTOR_IP's function, index and value: 4 shares out 1 to 16 IPs; with an index of 1 to 16, 0 deletes, 1 sets here,

@@ -37,7 +37,7 @@ pub record Arrives (n : Node) (g : Groups) (b : List ℕ) : Type 0 where
 pub data AimedAt (n : Node) (d : List ℕ) : Pulse → Type 0 where
   down : byteAt d 0 ≡ 0 → AimedAt n d (n .settings .travel)
   up : byteAt d 0 ≡ 1 → AimedAt n d (pulse 0)
-  to-IP : {p : Pulse} → byteAt d 0 ≡ 2 → ipOf (n .favourites) (wordAt d 1 + 1) ≡ At p → AimedAt n d p
+  to-IP : {p : Pulse} → byteAt d 0 ≡ 2 → ipOf (n .favourites) (wordAt d 1) ≡ At p → AimedAt n d p
   to-percent : byteAt d 0 ≡ 4 → AimedAt n d (pulseOfPercent (percent (wordAt d 1)) (n .settings .travel))
 
 -- Only the IPs of a board are changed: settings, motor, lock and label are as before, and there are sixteen again.
