@@ -70,7 +70,7 @@ static bool moveto_out_of_range(const uint8_t *data)
     case MOVE_UP:
         return false;
     case MOVE_TO_FAVOURITE:
-        return position >= FAVOURITES;
+        return !is_favourite_number(position);
     case MOVE_TO_PERCENT:
         return position > PERCENT_MOST;
     default:
@@ -139,14 +139,14 @@ static bool priority_too_low(const struct board *board, const struct frame *requ
         && request->data[1] < board->priority;
 }
 
-/* MOVETO counts favourites from 0, SET_MOTOR_IP from 1. */
+/* MOVETO and SET_MOTOR_IP name a favourite by the same number (2026-03); it is in range by now. */
 static bool favourite_not_set(const struct board *board, const struct frame *request)
 {
     const uint8_t *data = request->data;
     if (request->header.message == MOVETO && data[0] == MOVE_TO_FAVOURITE)
-        return !board->favourites[two_bytes(data + 1)].set;
+        return !board->favourites[favourite_place(two_bytes(data + 1))].set;
     if (request->header.message == SET_MOTOR_IP && data[0] == IP_DELETE)
-        return !board->favourites[data[1] - 1].set;
+        return !board->favourites[favourite_place(data[1])].set;
     return false;
 }
 
@@ -191,7 +191,7 @@ static uint16_t target_of(const struct board *board, const uint8_t *data)
     case MOVE_UP:
         return 0;
     case MOVE_TO_FAVOURITE:
-        return board->favourites[position].pulse;
+        return board->favourites[favourite_place(position)].pulse;
     default:
         return pulse_of_percent(position, board->travel);
     }
@@ -218,11 +218,11 @@ static struct favourite favourite_at(uint16_t pulse)
 /* Favourite i of n gets percent 100 x i / (n + 1) rounded down; the rest become unset. */
 static void divide_travel(struct board *board, uint32_t n)
 {
-    for (uint32_t i = 1; i <= FAVOURITES; i++) {
-        struct favourite *favourite = &board->favourites[i - 1];
+    for (uint16_t i = 1; i <= FAVOURITES; i++) {
+        struct favourite *favourite = &board->favourites[favourite_place(i)];
         *favourite = (struct favourite){0};
         if (i <= n)
-            *favourite = favourite_at(pulse_of_percent(100 * i / (n + 1), board->travel));
+            *favourite = favourite_at(pulse_of_percent(100u * i / (n + 1), board->travel));
     }
 }
 
@@ -233,7 +233,7 @@ static void set_motor_ip(struct board *board, const uint8_t *data)
         divide_travel(board, value);
         return;
     }
-    struct favourite *favourite = &board->favourites[data[1] - 1];
+    struct favourite *favourite = &board->favourites[favourite_place(data[1])];
     if (data[0] == IP_DELETE)
         *favourite = (struct favourite){0};
     else if (data[0] == IP_CURRENT)
@@ -302,9 +302,11 @@ static uint8_t status_of(const struct board *board)
 /* The first favourite whose pulse equals the position, else FFh. */
 static uint8_t favourite_reported(const struct board *board)
 {
-    for (uint8_t at = 0; at < FAVOURITES; at++)
-        if (board->favourites[at].set && board->favourites[at].pulse == board->position)
-            return (uint8_t)(at + 1);
+    for (uint8_t number = 1; number <= FAVOURITES; number++) {
+        const struct favourite *favourite = &board->favourites[favourite_place(number)];
+        if (favourite->set && favourite->pulse == board->position)
+            return number;
+    }
     return NO_FAVOURITE;
 }
 
@@ -358,7 +360,7 @@ static void post_status(const struct board *board, struct frame *reply)
 
 static void post_favourite(const struct board *board, uint8_t number, struct frame *reply)
 {
-    const struct favourite *favourite = &board->favourites[number - 1];
+    const struct favourite *favourite = &board->favourites[favourite_place(number)];
     reply->header.message = POST_MOTOR_IP;
     add_byte(reply, number);
     add_byte(reply, RESERVED);

@@ -28,6 +28,7 @@ static const struct activity activities[] = {
     {cleared_line, {200, 20, 20, 100}},
     {power_line, {150, 20, 20, 100}},
     {state_line, {250, 50, 50, 200}},
+    {store_favourite_line, {400, 40, 40, 250}},
     {node_line, {40, 15, 25, 60}},
     {report_line, {400, 6000, 300, 2000}},
     {damaged_report_line, {50, 200, 50, 200}},
@@ -77,6 +78,8 @@ static void build_line(struct script *script)
         pending_byte_line(script);
     else if (script->looks_left > 0 && chance(script, 60))
         look_line(script);
+    else if (script->visit_left > 0 && chance(script, 85))
+        visit_line(script);
     else
         build_weighted(script);
     if (script->length > 0 && script->line[0] != '#' && chance(script, 1))

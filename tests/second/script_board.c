@@ -81,13 +81,21 @@ static uint8_t any_favourite_number(struct script *script)
                            between(script, 1, 16), between(script, 1, 16), between(script, 1, 16));
 }
 
+/* About both ends of 1 to 16, and over 16 with the low byte, the high byte or both in that range. */
+static uint16_t any_favourite_position(struct script *script)
+{
+    if (chance(script, 40))
+        return (uint16_t)between(script, 1, FAVOURITES);
+    return (uint16_t)ONE_OF(script, 0, 0, 1, 1, 2, 15, 16, 16, 17, 17, 256, 257, 272, 4096, 65535,
+                            between(script, 1, FAVOURITES) << 8 | between(script, 1, FAVOURITES));
+}
+
 static void moveto_data(struct script *script, uint8_t *data)
 {
     data[0] = (uint8_t)ONE_OF(script, 0, 0, 1, 1, 2, 2, 2, 4, 4, 4, 4, 4, 3, 5, below(script, 256));
     uint16_t position = any_percent(script);
     if (data[0] == MOVE_TO_FAVOURITE)
-        position = (uint16_t)ONE_OF(script, 0, 1, 15, 16, 17, 256, below(script, 16), below(script, 16),
-                                    below(script, 16));
+        position = any_favourite_position(script);
     put_two_bytes(data + 1, position);
     data[3] = any_byte(script);
 }
@@ -209,17 +217,24 @@ struct frame any_request(struct script *script)
     return request;
 }
 
+/* From one host to the board's own NodeID, with all the DATA that the message needs, zeros as yet. */
+static struct frame plain_request(struct script *script, uint8_t message, uint32_t acknowledged_of_hundred)
+{
+    return (struct frame){
+        .header = {.message = message,
+                   .acknowledge = chance(script, acknowledged_of_hundred),
+                   .source = 0xFFFF00,
+                   .destination = own_node_id(script)},
+        .data_count = row_of(message)->data_at_least,
+    };
+}
+
 /* An unlock that is accepted, so that locks do not stand for ever. */
 struct frame unlocking_request(struct script *script)
 {
-    struct frame request = {
-        .header = {.message = SET_NETWORK_LOCK,
-                   .acknowledge = chance(script, 60),
-                   .source = 0xFFFF00,
-                   .destination = own_node_id(script)},
-        .data = {LOCK_UNLOCK, (uint8_t)between(script, script->console.board.priority, 255)},
-        .data_count = 2,
-    };
+    struct frame request = plain_request(script, SET_NETWORK_LOCK, 60);
+    request.data[0] = LOCK_UNLOCK;
+    request.data[1] = (uint8_t)between(script, script->console.board.priority, 255);
     return request;
 }
 
@@ -313,13 +328,9 @@ void state_line(struct script *script)
 /* A GET of label or plate that the board answers. */
 static void looking_frame_line(struct script *script)
 {
-    struct frame request = {
-        .header = {.message = (uint8_t)ONE_OF(script, GET_NODE_LABEL, GET_NODE_LABEL, GET_NODE_APP_VERSION,
-                                              GET_NODE_SERIAL_NUMBER),
-                   .acknowledge = chance(script, 50),
-                   .source = 0xFFFF00,
-                   .destination = own_node_id(script)},
-    };
+    uint8_t message = (uint8_t)ONE_OF(script, GET_NODE_LABEL, GET_NODE_LABEL, GET_NODE_APP_VERSION,
+                                      GET_NODE_SERIAL_NUMBER);
+    struct frame request = plain_request(script, message, 50);
     put_request(script, &request);
 }
 
@@ -338,6 +349,104 @@ void look_line(struct script *script)
         break;
     default:
         looking_frame_line(script);
+        break;
+    }
+}
+
+/* ------------------------------------------------------------------------
+ * A fitter's visit: a favourite is stored, then called by the same number
+ * ------------------------------------------------------------------------ */
+
+/* Begins a visit. Most favourites are stored, some deleted; with shares the number may lie beyond the last. */
+void store_favourite_line(struct script *script)
+{
+    struct frame request = plain_request(script, SET_MOTOR_IP, 80);
+    uint8_t function = (uint8_t)ONE_OF(script, IP_DELETE, IP_CURRENT, IP_CURRENT, IP_CURRENT, IP_PERCENT, IP_PERCENT,
+                                       IP_PERCENT, IP_DIVIDE);
+    uint32_t value = function == IP_DIVIDE ? between(script, 1, FAVOURITES) : below(script, PERCENT_MOST + 1);
+    script->favourite = ONE_OF(script, 1, 1, 2, 15, 16, 16, between(script, 1, FAVOURITES),
+                               between(script, 1, FAVOURITES), between(script, 1, FAVOURITES), 0, FAVOURITES + 1);
+    script->visit_left = 3;
+    request.data[0] = function;
+    request.data[1] = (uint8_t)script->favourite;
+    put_two_bytes(request.data + 2, (uint16_t)value);
+    put_request(script, &request);
+}
+
+/* A lock that is accepted. */
+static void locking_frame_line(struct script *script)
+{
+    struct frame request = plain_request(script, SET_NETWORK_LOCK, 60);
+    request.data[0] = LOCK_LOCK;
+    request.data[1] = script->console.board.priority;
+    put_request(script, &request);
+}
+
+static void unlocking_frame_line(struct script *script)
+{
+    struct frame request = unlocking_request(script);
+    put_request(script, &request);
+}
+
+/* A move to one of the limits, so that the favourite is called while the motor runs. */
+static void starting_frame_line(struct script *script)
+{
+    struct frame request = plain_request(script, MOVETO, 60);
+    request.data[0] = (uint8_t)ONE_OF(script, MOVE_DOWN, MOVE_UP);
+    put_request(script, &request);
+}
+
+/* Between storing and calling the motor may be moved, started, locked or blocked, or no longer be so. */
+static void meantime_line(struct script *script)
+{
+    switch (below(script, 8)) {
+    case 0:
+        locking_frame_line(script);
+        break;
+    case 1:
+        unlocking_frame_line(script);
+        break;
+    case 2:
+        blocked_line(script);
+        break;
+    case 3:
+        cleared_line(script);
+        break;
+    case 4:
+    case 5:
+        starting_frame_line(script);
+        break;
+    default:
+        pulse_line(script);
+        break;
+    }
+}
+
+/* By the number stored; at times by a neighbour, or with a high byte that makes it no number. */
+static void call_favourite_line(struct script *script)
+{
+    uint32_t number = script->favourite;
+    struct frame request = plain_request(script, MOVETO, 80);
+    uint32_t position = ONE_OF(script, number, number, number, number, number, number, number, number - 1, number + 1,
+                               number + 256);
+    request.data[0] = MOVE_TO_FAVOURITE;
+    put_two_bytes(request.data + 1, (uint16_t)position);
+    put_request(script, &request);
+}
+
+/* After the storing: the meantime, the call, and the state that it leads to. */
+void visit_line(struct script *script)
+{
+    script->visit_left--;
+    switch (script->visit_left) {
+    case 2:
+        meantime_line(script);
+        break;
+    case 1:
+        call_favourite_line(script);
+        break;
+    default:
+        state_line(script);
         break;
     }
 }

@@ -17,5 +17,7 @@ void cleared_line(struct script *script);
 void power_line(struct script *script);
 void state_line(struct script *script);
 void look_line(struct script *script);
+void store_favourite_line(struct script *script);
+void visit_line(struct script *script);
 
 #endif

@@ -28,6 +28,8 @@ struct script {
     struct loose_bundle pending;  /* bytes still to be fed to the line reader */
     size_t pending_at;
     size_t looks_left;  /* lines still to come that show what was set up or stored */
+    uint32_t favourite;  /* the number that a fitter stored last */
+    size_t visit_left;  /* lines still to come of that fitter's visit */
     int phase;
     size_t phase_left;
     size_t answered;

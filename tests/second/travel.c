@@ -15,7 +15,14 @@ uint16_t pulse_of_percent(uint32_t percent, uint16_t travel)
     return (uint16_t)((percent * travel + 50u) / 100u);
 }
 
-bool is_favourite_number(uint8_t number)
+/* All 16 bits count: MOVETO names a favourite in two bytes, and 0101h is not favourite 1. */
+bool is_favourite_number(uint16_t number)
 {
     return number >= 1 && number <= FAVOURITES;
+}
+
+/* Where the favourite of this number, 1 to 16, stands; every message counts them so (2026-03). */
+size_t favourite_place(uint16_t number)
+{
+    return number - 1u;
 }

@@ -4,6 +4,7 @@
 #define SECOND_TRAVEL_H
 
 #include <stdbool.h>
+#include <stddef.h>
 #include <stdint.h>
 
 enum {
@@ -15,6 +16,7 @@ enum {
 
 uint8_t percent_of_pulse(uint16_t pulse, uint16_t travel);
 uint16_t pulse_of_percent(uint32_t percent, uint16_t travel);
-bool is_favourite_number(uint8_t number);
+bool is_favourite_number(uint16_t number);
+size_t favourite_place(uint16_t number);
 
 #endif
