@@ -1,11 +1,12 @@
--- An IP is called by the number that it was stored under: where it stands, a MOVETO by that number is aimed at it.
+-- An IP is called by the number that it was stored under: the codes and effects of the second turn, of the IP that the
+-- first one left.
 -- Assumes nothing.
 use Prim.Native.Nat.{ℕ, _≤_, _<_}
 use native.Mathlib.Omega.{arith}
 use mathlib.Core.Path.{_≡_, _∙_, refl, sym, ap, subst}
 use mathlib.Core.Logic.{_≢_, inl, inr}
 use mathlib.Core.Bool.{true, false≢true}
-use mathlib.Core.List.{List}
+use mathlib.Core.List.{List, [], _∷_}
 use lib.ListN.{length}
 use Rattle.travel.specs.declared.Pulse.{Pulse}
 use Rattle.board.specs.Favourites.{isSet}
@@ -17,53 +18,123 @@ use Rattle.node.specs.Frames.{turnOf}
 use Rattle.promises.specs.Groups.{Groups}
 use Rattle.promises.specs.Wire.{message, dataOf, byteAt, wordAt}
 use Rattle.promises.specs.BoardParts.{ipOf}
-use Rattle.promises.specs.Rows.{passes, none-applies}
+use Rattle.promises.specs.Rows.{_when_, FirstOf, applies, passes, none-applies}
 use Rattle.promises.specs.Demand2.Codes.{IsAMove, Accepted, moveRows, setIpRows}
-use Rattle.promises.specs.Demand2.Turns.{CarriedOut}
-use Rattle.promises.specs.Demand2.Effects.{Arrives, AimedAt, to-IP, OneIp}
-use Rattle.promises.specs.Demand2.Called.{Stores, here, at-a-percent, Calls, GoesTo, Called}
-use Rattle.promises.proofs.Effects.{names-an-ip, accepted-order, effects}
+use Rattle.promises.specs.Demand2.Turns.{CarriedOut, RefusedBy}
+use Rattle.promises.specs.Demand2.Effects.{Arrives, to-IP, OneIp, SharedOut}
+use Rattle.promises.specs.Demand2.Called.{
+  Stores,
+  here,
+  at-a-percent,
+  as-a-share,
+  Empties,
+  deleted,
+  beyond-the-shares,
+  Calls,
+  GoesTo,
+  OnceStored,
+  Called,
+}
+use Rattle.promises.proofs.First.{one-number}
+use Rattle.promises.proofs.Codes.{codes}
+use Rattle.promises.proofs.Effects.{names-an-ip, names-a-count, accepted-order, effects}
 
--- The IP of a number from 1 to 16 that is set is where the number calls.
-module _ (n : Node) (number : ℕ) (stored : Pulse) (least : 1 ≤ number) (most : number ≤ 16) (set : ipOf (n .favourites) number ≡ At stored) where
-  calls-it : (d : List ℕ) → Calls d number → ipOf (n .favourites) (wordAt d 1) ≡ At stored
-  calls-it d c = ap (ipOf (n .favourites)) (c .its-number) ∙ set
+-- ---- the call
+module _ (n : Node) (g : Groups) (b : List ℕ) (number : ℕ) (least : 1 ≤ number) (most : number ≤ 16) (c : Calls n g b number) where
+  abbrev d : List ℕ
+  d = dataOf b
 
-  is-set : (d : List ℕ) → Calls d number → ipOf (n .favourites) (wordAt d 1) ≢ Unset
-  is-set d c unset = false≢true (sym (ap isSet unset) ∙ ap isSet (calls-it d c))
+  abbrev Lacks : Type 0
+  Lacks = (byteAt d 0 ≡ 2) × (ipOf (n .favourites) (wordAt d 1) ≡ Unset)
 
-  a-move : (d : List ℕ) → Calls d number → IsAMove (byteAt d 0) (wordAt d 1)
-  a-move d c =
-      let number-is = c .its-number in inr (inr (inl (c .function-2, (omega (arith, number-is, least), omega (arith, number-is, most)))))
+  under-it : {x : Ip} → ipOf (n .favourites) number ≡ x → ipOf (n .favourites) (wordAt d 1) ≡ x
+  under-it e = ap (ipOf (n .favourites)) (c .by-the-number) ∙ e
 
-  goes-to : GoesTo n number stored
-  goes-to =
+  a-move : IsAMove (byteAt d 0) (wordAt d 1)
+  a-move =
+      let is = c .by-the-number in inr (inr (inl (c .by-function-2, (omega (arith, is, least), omega (arith, is, most)))))
+
+  -- Only the last of MOVETO's codes can apply.
+  by-the-last-code : {code : ℕ} → FirstOf (0x23 when Lacks ∷ []) code → FirstOf (moveRows n d) code
+  by-the-last-code last =
+      passes (λ (short : length d < 4). omega (arith, short, c .is-long-enough))
+      (passes (λ (no-move : ¬ IsAMove (byteAt d 0) (wordAt d 1)). no-move a-move)
+      (passes (λ (locked : n .lock .locked ≡ true). false≢true (sym (c .is-unlocked) ∙ locked))
+      (passes (λ (blocked : n .drive .blocked ≡ true). false≢true (sym (c .is-not-blocked) ∙ blocked)) last)))
+
+  goes-to : (p : Pulse) → ipOf (n .favourites) number ≡ At p → GoesTo n b (turnOf n g b) p
+  goes-to p set =
+      let is-set : ¬ Lacks = λ lacks. false≢true (sym (ap isSet (lacks .1)) ∙ ap isSet (under-it set)) in
+      let none : Accepted (moveRows n d) = by-the-last-code (passes is-set (none-applies refl)) in
+      let aim = to-IP (c .by-function-2) (under-it set) in
+      let does = effects n g b (c .arrives) in
       record {
-        is-aimed-at-it = λ d c. to-IP (c .function-2) (calls-it d c);
-        is-not-refused = λ d c unlocked clear.
-            passes (λ (short : length d < 4). omega (arith, short, c .is-long-enough))
-            (passes (λ (no-move : ¬ IsAMove (byteAt d 0) (wordAt d 1)). no-move (a-move d c))
-            (passes (λ (locked : n .lock .locked ≡ true). false≢true (sym unlocked ∙ locked))
-            (passes (λ (blocked : n .drive .blocked ≡ true). false≢true (sym clear ∙ blocked))
-            (passes (λ (lacks : (byteAt d 0 ≡ 2) × (ipOf (n .favourites) (wordAt d 1) ≡ Unset)). is-set d c (lacks .1))
-            (none-applies refl)))));
+        runs-down = does .a-motor-sent-down-runs-down (c .is-a-MOVETO) none p aim;
+        runs-up = does .a-motor-sent-up-runs-up (c .is-a-MOVETO) none p aim;
+        stands = does .a-motor-that-is-there-stands (c .is-a-MOVETO) none p aim;
       }
 
+  is-refused : ipOf (n .favourites) number ≡ Unset → RefusedBy n b (turnOf n g b) 0x23
+  is-refused unset =
+      let (code, (first, refused)) = codes n g b (c .arrives) .a-MOVETO-is-refused (c .is-a-MOVETO) in
+      let is : code ≡ 0x23 = one-number (moveRows n d) code 0x23 first (by-the-last-code (applies (c .by-function-2, under-it unset))) in
+      subst (RefusedBy n b (turnOf n g b)) is (refused (λ e. omega (arith, is, e)))
+
+-- ---- what was stored before it
 module _ (n : Node) (g : Groups) (b : List ℕ) (a : Arrives n g b) (m : message b ≡ 0x15) (none : Accepted (setIpRows n (dataOf b))) where
-  abbrev index : ℕ
-  index = byteAt (dataOf b) 1
+  abbrev content : List ℕ
+  content = dataOf b
 
-  once-stored : (stored : Pulse) → byteAt (dataOf b) 0 ≢ 4
-      → (after : Node) × (CarriedOut n b (turnOf n g b) after Keep × OneIp n after index (At stored))
-      → GoesTo (turnOf n g b .node) index stored
-  once-stored stored other (after, (done, one)) =
-      let (least, most) = names-an-ip (byteAt (dataOf b) 0) index (wordAt (dataOf b) 2) (accepted-order n (dataOf b) none) other in
-      subst (λ (x : Node). GoesTo x index stored) (sym (done .the-board)) (goes-to after index stored least most (one .the-IP-named))
+  -- Under a number from 1 to 16 the first turn has left this.
+  record Left (number : ℕ) (x : Ip) : Type 0 where
+    least : 1 ≤ number
+    most : number ≤ 16
+    under-it : ipOf (turnOf n g b .node .favourites) number ≡ x
 
-  by-its-number : (stored : Pulse) → Stores n (dataOf b) stored → GoesTo (turnOf n g b .node) index stored
-  by-its-number stored (here f) = once-stored stored (λ e. omega (arith, f, e)) (effects n g b a .an-IP-is-set-here m none f)
-  by-its-number stored (at-a-percent f) =
-      once-stored stored (λ e. omega (arith, f, e)) (effects n g b a .an-IP-is-set-at-a-percent m none f)
+  left-so : {number : ℕ} {x : Ip} {after : Node} → 1 ≤ number → number ≤ 16 → CarriedOut n b (turnOf n g b) after Keep
+      → ipOf (after .favourites) number ≡ x → Left number x
+  left-so {number} least most done e =
+      record { least = least; most = most; under-it = ap (λ (k : Node). ipOf (k .favourites) number) (done .the-board) ∙ e }
+
+  one : {x : Ip} → byteAt content 0 ≢ 4
+      → (after : Node) × (CarriedOut n b (turnOf n g b) after Keep × OneIp n after (byteAt content 1) x) → Left (byteAt content 1) x
+  one other (after, (done, is)) =
+      let (least, most) = names-an-ip (byteAt content 0) (byteAt content 1) (wordAt content 2) (accepted-order n content none) other in
+      left-so least most done (is .the-IP-named)
+
+  stored-so : {number : ℕ} {p : Pulse} → Stores n content number p → Left number (At p)
+  stored-so (here f) = one (λ e. omega (arith, f, e)) (effects n g b a .an-IP-is-set-here m none f)
+  stored-so (at-a-percent f) = one (λ e. omega (arith, f, e)) (effects n g b a .an-IP-is-set-at-a-percent m none f)
+  stored-so {number} (as-a-share f least within) =
+      let (after, (done, is)) = effects n g b a .IPs-are-shared-out m none f in
+      let (some, few) = names-a-count (byteAt content 0) (byteAt content 1) (wordAt content 2) (accepted-order n content none) f in
+      left-so least (omega (arith, within, few)) done (is .to-the-count number least within)
+
+  emptied-so : {number : ℕ} → Empties content number → Left number Unset
+  emptied-so (deleted f) = one (λ e. omega (arith, f, e)) (effects n g b a .an-IP-is-deleted m none f)
+  emptied-so {number} (beyond-the-shares f beyond most) =
+      let (after, (done, is)) = effects n g b a .IPs-are-shared-out m none f in
+      left-so (omega (arith, beyond)) most done (is .the-rest number beyond most)
+
+  abbrev after : Node
+  after = turnOf n g b .node
+
+  stored-is-called : (number : ℕ) (stored : Pulse) → Stores n content number stored
+      → (h : Groups) (call : List ℕ) → Calls after h call number → GoesTo after call (turnOf after h call) stored
+  stored-is-called number stored s h call c =
+      let left = stored-so s in goes-to after h call number (left .least) (left .most) c stored (left .under-it)
+
+  emptied-is-refused : (number : ℕ) → Empties content number
+      → (h : Groups) (call : List ℕ) → Calls after h call number → RefusedBy after call (turnOf after h call) 0x23
+  emptied-is-refused number e h call c =
+      let left = emptied-so e in is-refused after h call number (left .least) (left .most) c (left .under-it)
+
+  once-stored : OnceStored n b after
+  once-stored =
+      record {
+        what-is-stored-under-a-number-is-called-by-it = stored-is-called;
+        a-number-with-nothing-stored-is-refused-by-23h = emptied-is-refused;
+      }
 
 pub called : Called
-called = record { what-is-stored-under-a-number-is-called-by-it = by-its-number }
+called = record { each-number-calls-its-IP = once-stored }

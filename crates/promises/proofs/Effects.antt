@@ -111,7 +111,7 @@ names-a-percent function index value (inr (i, inl none)) three = absurd (omega (
 names-a-percent function index value (inr (i, inr (inl one))) three = absurd (omega (arith, one, three))
 names-a-percent function index value (inr (i, inr (inr (f, h)))) three = h
 
-names-a-count : (function index value : ℕ) → SetsAnIp function index value → function ≡ 4 → (1 ≤ value) × (value ≤ 16)
+pub names-a-count : (function index value : ℕ) → SetsAnIp function index value → function ≡ 4 → (1 ≤ value) × (value ≤ 16)
 names-a-count function index value (inl (four, k)) f = k
 names-a-count function index value (inr (i, inl none)) f = absurd (omega (arith, none, f))
 names-a-count function index value (inr (i, inr (inl one))) f = absurd (omega (arith, one, f))

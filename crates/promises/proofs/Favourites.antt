@@ -27,6 +27,10 @@ use Rattle.board.proofs.Fitting.{with-ip-sixteen, shared-so-many, shared-out-si
 use Rattle.promises.specs.BoardParts.{pulse, percent, slot, ipOf}
 use Rattle.promises.specs.Demand2.Favourites.{NoneBelow, SixteenIps}
 
+unset-or-at : (x : Ip) → (x ≡ Unset) ⊎ ((p : Pulse) × (x ≡ At p))
+unset-or-at Unset = inl refl
+unset-or-at (At p) = inr (p, refl)
+
 -- ---- by its number
 by-number : (f : Favourites) (i : IpIndex) → 1 ≤ i .0 → i .0 ≤ 16 → ipAt f i ≡ ipOf f (i .0)
 by-number f i l u = rw (le-leb 1 (i .0) l, le-leb (i .0) 16 u)
@@ -124,6 +128,7 @@ module _ (n : ℕ) (travel : Pulse) where
 pub sixteen-ips : SixteenIps
 sixteen-ips =
     record {
+      an-IP-is-unset-or-at-a-pulse = unset-or-at;
       an-IP-is-found-by-its-number = by-number;
       no-other-number-is-set = λ f i h. rw (no-number i h);
       no-other-number-can-be-set = λ f i x h. rw (no-number i h);

@@ -3,7 +3,7 @@
 use Prim.Native.Nat.{ℕ, _≤_, _<_}
 use native.Mathlib.Omega.{arith}
 use mathlib.Core.Path.{_≡_, refl, ap}
-use mathlib.Core.Logic.{_≢_, _↔_}
+use mathlib.Core.Logic.{_≢_, _↔_, _⊎_, inl, inr}
 use mathlib.Core.Bool.{true}
 use mathlib.Core.List.{[], _∷_}
 use borrow.Author.Tests.{le-ltb, lt-ltb}
@@ -47,9 +47,15 @@ kept-length g Keep = refl
 kept-length g (Put index low middle high) =
     either (λ (after : Groups). length after ≡ length g) (ltb 15 index) (λ t. refl) (λ t. length-set g index (low ∷ middle ∷ high ∷ []))
 
+kept-or-put : (change : Change) → (change ≡ Keep)
+    ⊎ ((index : ℕ) × (low : ℕ) × (middle : ℕ) × (high : ℕ) × (change ≡ Put index low middle high))
+kept-or-put Keep = inl refl
+kept-or-put (Put index low middle high) = inr (index, low, middle, high, refl)
+
 pub group-table : GroupTable
 group-table =
     record {
+      a-change-keeps-the-table-or-puts-an-entry = kept-or-put;
       a-fresh-table-is-sixteen-empty-entries = refl;
       no-SOURCE-is-in-a-fresh-table = none-in-a-fresh-table;
       in-the-table-exactly-when-a-member = in-the-table;

@@ -17,6 +17,7 @@ use Rattle.promises.specs.RequestFigures.{
   R03-stored,
   R03-called,
   R03-refused,
+  R03-in-order,
   requestFigures,
 }
 
@@ -51,5 +52,9 @@ out-of-range : R03-refused
 unfolding readingOf writingOf ipsWithin every replyTo outcomeOf moveRow inTable meant turnOf
 out-of-range = (refl, refl, refl)
 
+in-order : R03-in-order
+unfolding readingOf writingOf ipsWithin every replyTo outcomeOf moveRow inTable meant turnOf
+in-order = (refl, refl, refl)
+
 pub all-hold : AllHold requestFigures
-all-hold = (serial, (asked, (told, (version, (halves, (stored, (by-number, (out-of-range, tt))))))))
+all-hold = (serial, (asked, (told, (version, (halves, (stored, (by-number, (out-of-range, (in-order, tt)))))))))

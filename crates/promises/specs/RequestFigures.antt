@@ -8,7 +8,7 @@ use lib.ListN.{length, replicate}
 use Rattle.travel.specs.Position.{percentOfPulse}
 use Rattle.serial.specs.Serial.{serialOf}
 use Rattle.board.specs.declared.{
-  drive.Motion.the-variants.{Running},
+  drive.Motion.the-variants.{Still, Running},
   favourites.Ip.the-variants.{Unset, At},
   groups.Change.the-variants.{Keep},
   whole.Node.{Node},
@@ -157,6 +157,38 @@ R03-refused =
     × (turnOf held emptyTable callBeyond ≡ replies held outOfRange)
     × (turnOf held emptyTable callFarBeyond ≡ replies held outOfRange)
 
+-- 2026-03: position 2, not set, on a board that is locked and blocked, on one that is blocked, and on one that is neither: 20h, FFh, 23h.
+abbrev pub callSecond : List ℕ
+callSecond =
+    0xFC ∷ 0x70 ∷ 0xFD ∷ 0xFF ∷ 0x00 ∷ 0x00 ∷ 0xFC ∷ 0xFD ∷ 0xFE ∷ 0xFD ∷ 0xFD ∷ 0xFF ∷ 0xFF ∷ 0x0A ∷ 0x57 ∷ []
+
+abbrev pub isLocked : List ℕ
+isLocked = 0x90 ∷ 0xF3 ∷ 0xDF ∷ 0xFC ∷ 0xFD ∷ 0xFE ∷ 0xFF ∷ 0x00 ∷ 0x00 ∷ 0xDF ∷ 0x07 ∷ 0x37 ∷ []
+
+abbrev pub isBlocked : List ℕ
+isBlocked = 0x90 ∷ 0xF3 ∷ 0xDF ∷ 0xFC ∷ 0xFD ∷ 0xFE ∷ 0xFF ∷ 0x00 ∷ 0x00 ∷ 0x00 ∷ 0x06 ∷ 0x58 ∷ []
+
+abbrev pub isNotSet : List ℕ
+isNotSet = 0x90 ∷ 0xF3 ∷ 0xDF ∷ 0xFC ∷ 0xFD ∷ 0xFE ∷ 0xFF ∷ 0x00 ∷ 0x00 ∷ 0xDC ∷ 0x07 ∷ 0x34 ∷ []
+
+abbrev pub blocked : Node → Node
+blocked n = withDrive n (drive (pulse 0) Still 0xFF 0 0x20 true)
+
+abbrev pub R03-in-order : Type 0
+R03-in-order =
+    (turnOf (blocked held) emptyTable callSecond ≡ replies (blocked held) isLocked)
+    × (turnOf (blocked first) emptyTable callSecond ≡ replies (blocked first) isBlocked)
+    × (turnOf first emptyTable callSecond ≡ replies first isNotSet)
+
 abbrev pub requestFigures : List (Type 0)
 requestFigures =
-    R01-serial ∷ R01-asked ∷ R01-told ∷ R01-version ∷ R02-halves ∷ R03-stored ∷ R03-called ∷ R03-refused ∷ []
+    R01-serial
+    ∷ R01-asked
+    ∷ R01-told
+    ∷ R01-version
+    ∷ R02-halves
+    ∷ R03-stored
+    ∷ R03-called
+    ∷ R03-refused
+    ∷ R03-in-order
+    ∷ []

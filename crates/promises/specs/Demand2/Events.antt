@@ -28,6 +28,10 @@ use Rattle.promises.specs.Groups.{Groups, IsMember}
 
 -- The table of sixteen entries: fresh, whose groups are in it, and after a turn, by the change that the turn hands out.
 pub record GroupTable : Type 0 where
+  -- there is no third kind of change
+  pub a-change-keeps-the-table-or-puts-an-entry :
+      (change : Change) → (change ≡ Keep)
+      ⊎ ((index : ℕ) × (low : ℕ) × (middle : ℕ) × (high : ℕ) × (change ≡ Put index low middle high))
   pub a-fresh-table-is-sixteen-empty-entries : noGroups ≡ emptyTable
   pub no-SOURCE-is-in-a-fresh-table : (source : ℕ) → ¬ IsMember source noGroups
   pub in-the-table-exactly-when-a-member : (source : Address) (g : Groups)

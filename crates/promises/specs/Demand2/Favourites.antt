@@ -20,6 +20,8 @@ NoneBelow number f position = (lower : ℕ) → 1 ≤ lower → lower < number �
 
 -- Of sixteen IPs, as all favourites of the code have.
 pub record SixteenIps : Type 0 where
+  -- there is no third kind
+  pub an-IP-is-unset-or-at-a-pulse : (x : Ip) → (x ≡ Unset) ⊎ ((p : Pulse) × (x ≡ At p))
   -- one of them, by its number
   pub an-IP-is-found-by-its-number : (f : Favourites) (i : IpIndex) → 1 ≤ i .0 → i .0 ≤ 16 → ipAt f i ≡ ipOf f (i .0)
   pub no-other-number-is-set : (f : Favourites) (i : IpIndex) → (i .0 < 1) ⊎ (16 < i .0) → ipAt f i ≡ Unset
