@@ -7,4 +7,5 @@ pub mod Addresses
 pub mod ReadBack
 pub mod WrittenAgain
 pub mod Buffers
+pub mod OneRowMore
 pub mod Determined

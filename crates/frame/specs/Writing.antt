@@ -4,6 +4,7 @@ use Prim.Native.Nat.{ℕ, _+_, _-_, _*_, _/_, _%_, _≤_}
 use mathlib.Core.Logic.{_≢_}
 use mathlib.Core.Bool.{Bool}
 use mathlib.Core.List.{List, [], _∷_, _++_, map}
+use lib.Dec.{eqb}
 use lib.ListN.{length, take, drop}
 use Rattle.meaning.specs.Choice.{if_then_else_}
 use Rattle.meaning.specs.Tests.{_below_, _above_, _is_, _or_}
@@ -35,19 +36,36 @@ wireOf raw = sealed (map inverted raw)
 abbrev pub frameOf : Header → List ℕ → List ℕ
 frameOf h d = wireOf (rawHeader h (length d) ++ d)
 
--- Why a frame is not written: rows 10 to 14.
-abbrev pub writerTable : (room place : ℕ) → Header → List ℕ → List (Row Writing)
-writerTable room place h d =
+-- Why header and DATA make no frame: rows 10 to 13.
+abbrev pub frameTable : Header → List ℕ → List (Row Writing)
+frameTable h d =
     Refused Refusal.AddressTooLarge when h .source .0 above 0xFFFFFF or h .destination .0 above 0xFFFFFF
     ∷ Refused Refusal.TypeTooLarge when h .sender above 15 or h .receiver above 15
     ∷ Refused Refusal.TooMuchData when length d above 20
     ∷ Refused Refusal.ReservedToWrite when h .message is 255
-    ∷ Refused Refusal.NoRoom when room below place or (room - place) below (11 + length d)
     ∷ []
+
+-- Why the frame does not fit: row 14.
+abbrev pub roomTable : (room place : ℕ) → List ℕ → List (Row Writing)
+roomTable room place d = Refused Refusal.NoRoom when room below place or (room - place) below (11 + length d) ∷ []
+
+-- Why a frame is not written: rows 10 to 14.
+abbrev pub writerTable : (room place : ℕ) → Header → List ℕ → List (Row Writing)
+writerTable room place h d = frameTable h d ++ roomTable room place d
 
 -- The first reason that applies, or the place after the frame.
 unfoldable pub writingOf : (room place : ℕ) → Header → List ℕ → Writing
 writingOf room place h d = decide (writerTable room place h d) (Next (place + (11 + length d)))
+
+-- The writer of who has a reason of his own to refuse: it comes before the row on room.
+unfoldable pub writingWith : Row Writing → (room place : ℕ) → Header → List ℕ → Writing
+writingWith reason room place h d =
+    decide (frameTable h d ++ reason ∷ roomTable room place d) (Next (place + (11 + length d)))
+
+-- An answer of the writer to whom no room was lent, with another refusal in the place of row 14.
+abbrev pub inPlaceOfRoom : Refusal → Writing → Writing
+inPlaceOfRoom other (Next n) = Refused other
+inPlaceOfRoom other (Refused r) = Refused (if eqb (numberOf r) 14 then other else r)
 
 -- What the writer asks, as facts.
 pub record Writable (room place : ℕ) (h : Header) (d : List ℕ) : Type 0 where

@@ -1,9 +1,10 @@
 -- Tables, read like the paper's from top to bottom: the first row whose test holds gives the answer.
 -- Assumes nothing.
 use Prim.Native.Nat.{ℕ, zero, suc}
-use mathlib.Core.Path.{_≡_, refl}
+use mathlib.Core.Path.{_≡_, refl, ap}
 use mathlib.Core.Logic.{_⊎_, inl, inr, ⊎-elim}
-use mathlib.Core.List.{List, [], _∷_}
+use mathlib.Core.Bool.{Bool, true, false}
+use mathlib.Core.List.{List, [], _∷_, _++_}
 use Rattle.meaning.specs.Choice.{if_then_else_, either}
 use Rattle.meaning.specs.Tests.{Test, holds-by, passed-by}
 
@@ -61,6 +62,17 @@ of-decided kind (answer when test ∷ rows) rest each last =
     either kind (test .holds) (λ e. each .0)
     (λ e. of-decided kind rows rest (each .1) (λ facts. last (test .is-other e, facts)))
 
+-- Each answer of a table is of some kind where its row applies.
+abbrev pub AnswersWhen : {A : Type 0} → (A → Type 0) → List (Row A) → Type 0
+AnswersWhen kind [] = Unit {0}
+AnswersWhen kind (answer when test ∷ rows) = (test .fact → kind answer) × AnswersWhen kind rows
+
+pub of-its-row : {A : Type 0} (kind : A → Type 0) (rows : List (Row A)) (rest : A) → AnswersWhen kind rows → kind rest
+    → kind (decide rows rest)
+of-its-row kind [] rest each last = last
+of-its-row kind (answer when test ∷ rows) rest each last =
+    either kind (test .holds) (λ e. each .0 (test .is-fact e)) (λ e. of-its-row kind rows rest (each .1) last)
+
 -- No row applies, or the answer is a row's and so of the kind that every row's is.
 pub passed-or-answered : {A : Type 0} (kind : A → Type 0) (rows : List (Row A)) (rest : A)
     → Answers kind rows → Passed rows ⊎ kind (decide rows rest)
@@ -68,3 +80,19 @@ passed-or-answered kind [] rest each = inl tt
 passed-or-answered kind (answer when test ∷ rows) rest each =
     either (λ given. Passed (answer when test ∷ rows) ⊎ kind given) (test .holds) (λ e. inr (each .0))
     (λ e. ⊎-elim (λ facts. inl (test .is-other e, facts)) inr (passed-or-answered kind rows rest (each .1)))
+
+-- A table behind another decides where none of the other's rows applies.
+pub decides-on : {A : Type 0} (rows more : List (Row A)) (rest : A) → decide (rows ++ more) rest ≡ decide rows (decide more rest)
+decides-on [] more rest = refl
+decides-on (answer when test ∷ rows) more rest = ap (λ given. if test .holds then answer else given) (decides-on rows more rest)
+
+-- What leaves every row's answer as it is changes the rest alone.
+pub changes-the-rest : {A : Type 0} (f : A → A) (rows : List (Row A)) (rest : A) → Answers (λ answer. f answer ≡ answer) rows
+    → f (decide rows rest) ≡ decide rows (f rest)
+changes-the-rest f [] rest each = refl
+changes-the-rest f (answer when test ∷ rows) rest each = by (test .holds) (changes-the-rest f rows rest (each .1))
+  where
+    by : (t : Bool) → f (decide rows rest) ≡ decide rows (f rest)
+        → f (if t then answer else decide rows rest) ≡ (if t then answer else decide rows (f rest))
+    by true more = each .0
+    by false more = more

@@ -22,6 +22,9 @@ use Rattle.refusal.specs.declared.Refusal.the-variants.{
   TooMuchData,
   ReservedToWrite,
   NoRoom,
+  FieldOutOfRange,
+  WrongDataCount,
+  UnlistedMessage,
   BrokenRegister,
   NoSuchLine,
   NoMotor,
@@ -41,12 +44,13 @@ use Rattle.refusal.specs.declared.Refusal.the-variants.{
   NoRoomForForm,
 }
 
--- The rows: bundles, lent runs, the writer, the register, the node, stored forms.
+-- The rows: bundles, lent runs, the writer, typed messages, the register, the node, stored forms.
 abbrev table : List Refusal
 table =
     TooShort ∷ TooLong ∷ Extended ∷ WrongLength ∷ WrongChecksum ∷ ReservedMessage ∷
     UnequalRuns ∷ PlacePastEnd ∷ BrokenReader ∷
     AddressTooLarge ∷ TypeTooLarge ∷ TooMuchData ∷ ReservedToWrite ∷ NoRoom ∷
+    FieldOutOfRange ∷ WrongDataCount ∷ UnlistedMessage ∷
     BrokenRegister ∷ NoSuchLine ∷ NoMotor ∷ NotForRegister ∷ BadReading ∷ RegisterFull ∷ NotHeld ∷
     BeyondTravel ∷ NotBlocking ∷ BadSettings ∷ BrokenNode ∷
     NotFormOne ∷ TooManyMotors ∷ WrongFormLength ∷ BadContents ∷ BadBody ∷ NoRoomForForm ∷
@@ -72,6 +76,9 @@ found TypeTooLarge = refl
 found TooMuchData = refl
 found ReservedToWrite = refl
 found NoRoom = refl
+found FieldOutOfRange = refl
+found WrongDataCount = refl
+found UnlistedMessage = refl
 found BrokenRegister = refl
 found NoSuchLine = refl
 found NoMotor = refl

@@ -31,6 +31,12 @@ pub enum Refusal {
     ReservedToWrite,
     // 14: from the given place on the buffer has no room for the frame.
     NoRoom,
+    // 15: a field of a typed message is out of its range.
+    FieldOutOfRange,
+    // 16: a typed message has another count of DATA.
+    WrongDataCount,
+    // 18: MSG is none of the list of typed messages.
+    UnlistedMessage,
     // 19: the lent register is not sound.
     BrokenRegister,
     // 20: there are lines 0 to 3 only.
@@ -87,6 +93,9 @@ impl Refusal {
             Refusal::TooMuchData => 12,
             Refusal::ReservedToWrite => 13,
             Refusal::NoRoom => 14,
+            Refusal::FieldOutOfRange => 15,
+            Refusal::WrongDataCount => 16,
+            Refusal::UnlistedMessage => 18,
             Refusal::BrokenRegister => 19,
             Refusal::NoSuchLine => 20,
             Refusal::NoMotor => 21,
