@@ -1,0 +1,31 @@
+-- Each field by its range.
+-- Assumes nothing.
+use borrow.Author.Needs.{needs}
+use Rattle.rts.proofs.data.Mode.fits.Statement.{statement}
+use Rattle.rts.proofs.data.Mode.fits.Tie as tie
+
+returns : tie.Need-returns
+returns c =
+    let t = c .before .before .before in
+    rw (
+      c .both3 .ensures,
+      c .before .both2 .ensures,
+      c .before .before .both .ensures,
+      t .takes4 .ensures,
+      t .before .takes3 .ensures,
+      t .before .before .takes2 .ensures,
+      t .before .before .before .takes .ensures,
+    )
+
+pub fits-spec : {M : Type 1} → statement M
+fits-spec =
+    tie.close
+    (tie.spec
+    (λ c κs. search needs)
+    (λ c κs. search needs)
+    (λ c κs. search needs)
+    (λ c κs. search needs)
+    (λ c κs. search needs)
+    (λ c κs. search needs)
+    (λ c κs. search needs)
+    returns)
