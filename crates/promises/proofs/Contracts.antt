@@ -11,6 +11,7 @@ use Rattle.promises.specs.Contracts.{
   Travel.{TravelContracts},
   Messages.{MessagesContracts},
   Node.{NodeContracts},
+  Rts.{RtsContracts},
   Motors.{MotorsContracts},
   Form.{FormContracts},
 }
@@ -78,6 +79,20 @@ node-contracts =
       reply-none-is = λ κs a. (refl, (tt, λ x s p. p));
     }
 
+rts-contracts : RtsContracts
+rts-contracts =
+    record {
+      message-number-is = λ κs a. (refl, (tt, λ x s p. p));
+      message-count-is = λ κs a. (refl, (tt, λ x s p. p));
+      message-fields-is = λ κs a. (refl, (tt, λ x s p. p));
+      message-of-is = λ κs a. (refl, (tt, λ x s p. p));
+      a-message-is-of-a-byte-and-four-bytes = refl;
+      a-bundle-is-bytes-lent-to-be-read = refl;
+      a-message-is-written-into-bytes-at-a-place-of-64-bits = refl;
+      message-read-is = λ κs a. (refl, (tt, λ x s p. p));
+      message-write-is = λ κs a. (refl, (tt, λ x s p. p));
+    }
+
 motors-contracts : MotorsContracts
 unfolding isReading
 motors-contracts =
@@ -122,6 +137,7 @@ contracts =
       board = board-contracts;
       messages = messages-contracts;
       node = node-contracts;
+      rts = rts-contracts;
       motors = motors-contracts;
       form = form-contracts;
     }

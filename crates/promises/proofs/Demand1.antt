@@ -13,7 +13,7 @@ use borrow.Author.Tests.{not-true}
 use Rattle.meaning.specs.Choice.{either}
 use Rattle.refusal.specs.declared.Refusal.{Refusal}
 use Rattle.frame.specs.Reading.{readingOf}
-use Rattle.frame.specs.Writing.{writingOf, bufferAfter as bufferWritten}
+use Rattle.frame.specs.Writing.{writingOf, frameOf, laid, bufferAfter as bufferWritten}
 use Rattle.frame.specs.declared.header.Header.{Header}
 use Rattle.frame.specs.declared.reading.Reading.{Reading}
 use Rattle.frame.specs.declared.writing.Writing.{Writing}
@@ -50,6 +50,11 @@ use Rattle.form.specs.Reading.{readOf}
 use Rattle.form.specs.Writing.{writtenOf}
 use Rattle.form.specs.declared.writing.Written.{Written}
 use Rattle.form.proofs.FormLaws.{a-refused-form-leaves-the-run-as-it-was, a-refused-writing-changes-no-byte}
+use Rattle.rts.specs.{
+  Table.{dataOf as contentOf},
+  Writing.{headerOf, writtenOf as messageWritten, bufferAfter as messageLaid},
+  declared.{envelope.Envelope.{Envelope}, message.Message.{Message}},
+}
 use Rattle.promises.specs.Numbers.{writeNumber, lineNumber, eventNumber, turnNumber, registerNumber, formNumber, noFrame}
 use Rattle.promises.specs.BoardInRange.{BoardInRange}
 use Rattle.promises.specs.Groups.{Groups}
@@ -89,6 +94,16 @@ module _ {P : Type 0} where
 write : (buffer : List ℕ) (place : ℕ) (h : Header) (d : List ℕ) → writeNumber (writingOf (length buffer) place h d) ≢ 0
     → bufferWritten buffer place h d ≡ buffer
 write buffer place h d k = of-writing (writingOf (length buffer) place h d) k (refused-writes-nothing buffer place h d)
+
+-- A buffer in which nothing was written is as it was.
+laid-by : (a : Writing) (buffer : List ℕ) (place : ℕ) (w : List ℕ) → writeNumber a ≢ 0 → laid a buffer place w ≡ buffer
+laid-by (Writing.Next next) buffer place w k = absurd (k refl)
+laid-by (Writing.Refused q) buffer place w k = refl
+
+write-message : (buffer : List ℕ) (place : ℕ) (e : Envelope) (m : Message) → writeNumber (messageWritten (length buffer) place e m) ≢ 0
+    → messageLaid buffer place e m ≡ buffer
+write-message buffer place e m =
+    laid-by (messageWritten (length buffer) place e m) buffer place (frameOf (headerOf e m) (contentOf m))
 
 -- ---- a refused bundle is dropped
 abbrev Dropped : Reader → Stepped → Type 0
@@ -198,4 +213,5 @@ kept =
           (a-refused-striking-changes-no-record run count line node);
       read-form = λ run b k. of-register (readOf run b .answer) k (a-refused-form-leaves-the-run-as-it-was run b);
       write-form = λ run count buffer k. of-form (writtenOf run count (length buffer)) k (a-refused-writing-changes-no-byte run count buffer);
+      write-message = write-message;
     }

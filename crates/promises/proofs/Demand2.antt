@@ -36,6 +36,7 @@ use Rattle.promises.proofs.Example.{example}
 use Rattle.promises.proofs.Register.{register}
 use Rattle.promises.proofs.StoredForm.{stored-form}
 use Rattle.promises.proofs.EndToEnd.{end-to-end}
+use Rattle.promises.proofs.Transmitter.{transmitter}
 
 board : Board
 board =
@@ -88,4 +89,5 @@ kept =
       register = register;
       stored-form = stored-form;
       end-to-end = end-to-end;
+      transmitter = transmitter;
     }

@@ -12,6 +12,7 @@ use Rattle.board.proofs.Determined as Board
 use Rattle.messages.proofs.Determined as Messages
 use Rattle.node.proofs.Determined as Node
 use Rattle.meaning.specs.Cases.{zero-is-one}
+use Rattle.rts.proofs.Determined as Rts
 use Rattle.motors.proofs.Determined as Motors
 use Rattle.form.proofs.Determined as Form
 use Rattle.register.proofs.Determined as Register
@@ -28,6 +29,7 @@ determined =
       board = Board.determined;
       messages = Messages.determined;
       node = Node.determined;
+      rts = Rts.determined;
       motors = Motors.determined;
       form = Form.determined;
     }

@@ -78,7 +78,7 @@ written-again b bytes h count e buffer place room =
     rw (← same) (written-of-read b f (λ i within. bytes i) buffer place room)
 
 -- ---- what is written
-to-writable : {room place : ℕ} {h : Header} {d : List ℕ} → CanBeWritten room place h d → Writable room place h d
+pub to-writable : {room place : ℕ} {h : Header} {d : List ℕ} → CanBeWritten room place h d → Writable room place h d
 to-writable w =
     record {
       source-is-an-address = w .SOURCE-to-FFFFFFh;

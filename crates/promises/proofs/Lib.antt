@@ -1,4 +1,5 @@
 pub mod Frames
+pub mod Transmitter
 pub mod Serials
 pub mod Labels
 pub mod BoardInRange
@@ -13,6 +14,7 @@ pub mod SinceSetUp
 pub mod Held
 pub mod RegisterInRange
 pub mod First
+pub mod MessageRows
 pub mod Turns
 pub mod Codes
 pub mod Effects

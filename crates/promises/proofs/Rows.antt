@@ -82,6 +82,7 @@ use Rattle.promises.specs.Rows.{
   readFormRows,
   Rows,
 }
+use Rattle.promises.proofs.MessageRows.{read-message, write-message}
 use Rattle.promises.proofs.First.{
   choice,
   finds,
@@ -351,4 +352,6 @@ rows =
       strike-out = strike-out;
       read-form = read-form;
       write-form = write-form;
+      read-message = read-message;
+      write-message = write-message;
     }

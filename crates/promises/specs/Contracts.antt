@@ -20,6 +20,7 @@ pub mod Lock
 pub mod Board
 pub mod Messages
 pub mod Node
+pub mod Rts
 pub mod Motors
 pub mod Form
 pub mod Register
@@ -33,6 +34,7 @@ pub record Contracts : Type 0 where
   pub board : Board.BoardContracts
   pub messages : Messages.MessagesContracts
   pub node : Node.NodeContracts
+  pub rts : Rts.RtsContracts
   pub motors : Motors.MotorsContracts
   pub form : Form.FormContracts
 

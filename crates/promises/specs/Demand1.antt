@@ -25,6 +25,10 @@ use Rattle.motors.specs.Filing.{filedOf, struckOf}
 use Rattle.motors.specs.declared.motor.Motor.{Motor}
 use Rattle.form.specs.Reading.{readOf}
 use Rattle.form.specs.Writing.{writtenOf, bufferAfter as formWritten}
+use Rattle.rts.specs.{
+  Writing.{writtenOf as messageWritten, bufferAfter},
+  declared.{envelope.Envelope.{Envelope}, message.Message.{Message}},
+}
 use Rattle.promises.specs.Numbers.{
   writeNumber,
   lineNumber,
@@ -96,3 +100,7 @@ pub record Demand1 : Type 1 where
   pub write-form :
       (run : List Motor) (count : ℕ) (buffer : List ℕ) → formNumber (writtenOf run count (length buffer)) ≢ 0
       → formWritten run count buffer ≡ buffer
+  -- the transmitter's messages: no byte of the buffer
+  pub write-message :
+      (buffer : List ℕ) (place : ℕ) (e : Envelope) (m : Message)
+      → writeNumber (messageWritten (length buffer) place e m) ≢ 0 → bufferAfter buffer place e m ≡ buffer

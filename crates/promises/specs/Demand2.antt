@@ -22,6 +22,7 @@ pub mod Positions
 pub mod Register
 pub mod StoredForm
 pub mod EndToEnd
+pub mod Transmitter
 
 pub record Demand2 : Type 1 where
   pub frames : Frames.Frames
@@ -33,3 +34,4 @@ pub record Demand2 : Type 1 where
   pub register : Register.Register
   pub stored-form : StoredForm.StoredForm
   pub end-to-end : EndToEnd.EndToEnd
+  pub transmitter : Transmitter.Transmitter

@@ -20,6 +20,7 @@ use Rattle.travel.proofs.Determined as Travel
 use Rattle.board.proofs.Determined as Board
 use Rattle.messages.proofs.Determined as Messages
 use Rattle.node.proofs.Determined as Node
+use Rattle.rts.proofs.Determined as Rts
 use Rattle.motors.proofs.Determined as Motors
 use Rattle.form.proofs.Determined as Form
 use Rattle.register.proofs.Determined as Register
@@ -34,6 +35,7 @@ pub record Determined : Type 0 where
   pub board : Board.Determined
   pub messages : Messages.Determined
   pub node : Node.Determined
+  pub rts : Rts.Determined
   pub motors : Motors.Determined
   pub form : Form.Determined
 

@@ -11,6 +11,7 @@ use Rattle.board.specs.declared.events.Verdict.{Verdict}
 use Rattle.node.specs.declared.turn.Answer as turn
 use Rattle.motors.specs.declared.answer.Answer as motors
 use Rattle.form.specs.declared.writing.Written.{Written}
+use Rattle.rts.specs.declared.reading.Received.{Received}
 
 -- The table "Numbers given back".
 abbrev pub numberOf : Refusal → ℕ
@@ -28,6 +29,9 @@ numberOf Refusal.TypeTooLarge = 11
 numberOf Refusal.TooMuchData = 12
 numberOf Refusal.ReservedToWrite = 13
 numberOf Refusal.NoRoom = 14
+numberOf Refusal.FieldOutOfRange = 15
+numberOf Refusal.WrongDataCount = 16
+numberOf Refusal.UnlistedMessage = 18
 numberOf Refusal.BrokenRegister = 19
 numberOf Refusal.NoSuchLine = 20
 numberOf Refusal.NoMotor = 21
@@ -75,6 +79,10 @@ registerNumber (motors.Answer.Refused refusal) = numberOf refusal
 abbrev pub formNumber : Written → ℕ
 formNumber (Written.Bytes count) = 0
 formNumber (Written.Refused refusal) = numberOf refusal
+
+abbrev pub receivedNumber : Received → ℕ
+receivedNumber (Received.Message envelope message) = 0
+receivedNumber (Received.Refused refusal) = numberOf refusal
 
 -- Rows 1 to 6: a bundle is no frame.
 abbrev pub noFrame : List ℕ

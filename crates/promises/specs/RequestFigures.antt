@@ -14,6 +14,27 @@ use Rattle.board.specs.declared.{
   whole.Node.{Node},
 }
 use Rattle.node.specs.{Frames.{turnOf}, declared.turn.{Answer.the-variants.{Replied}, Turn.{Turn}}}
+use Rattle.rts.specs.{
+  Reading.{receivedOf},
+  Writing.{writtenOf, bufferAfter as messageWritten},
+  declared.{
+    envelope.Envelope.{Envelope},
+    message.Message.{Message},
+    message.Message.the-variants.{
+      CtrlPosition,
+      CtrlTilt,
+      SetSunAuto,
+      SetDctLock,
+      SetIp,
+      GetChannelMode,
+      PostChannelMode,
+      PostTiltFramecount,
+      PostDctLock,
+    },
+    reading.Received.{Received},
+  },
+}
+use Rattle.promises.specs.Numbers.{writeNumber, receivedNumber}
 use Rattle.promises.specs.BoardParts.{
   address,
   pulse,
@@ -180,6 +201,126 @@ R03-in-order =
     × (turnOf (blocked first) emptyTable callSecond ≡ replies (blocked first) isBlocked)
     × (turnOf first emptyTable callSecond ≡ replies first isNotSet)
 
+-- 2026-04: 002's host FF:FF:00 and its transmitter 05:00:02, type 5; a message from one to the other and back, without the ACK bit.
+abbrev pub toTransmitter : Envelope
+toTransmitter =
+    record { ack = false; sender = 0; receiver = 5; source = address 0xFFFF00; destination = address 0x050002 }
+
+abbrev pub fromTransmitter : Envelope
+fromTransmitter =
+    record { ack = false; sender = 5; receiver = 0; source = address 0x050002; destination = address 0xFFFF00 }
+
+-- 2026-04: a message written at the start of a buffer of this length that has zeros, and read.
+abbrev pub IsOnTheWire : Envelope → Message → List ℕ → Type 0
+IsOnTheWire e m wire =
+    (messageWritten (replicate (length wire) 0) 0 e m ≡ wire) × (receivedOf wire ≡ Received.Message e m)
+
+-- 2026-04: 002's four worked frames. CTRL_POSITION, channel 4, down (2).
+abbrev pub positionDown : List ℕ
+positionDown = 0x7F ∷ 0xF2 ∷ 0xFA ∷ 0xFF ∷ 0x00 ∷ 0x00 ∷ 0xFD ∷ 0xFF ∷ 0xFA ∷ 0xFB ∷ 0xFD ∷ 0x08 ∷ 0x58 ∷ []
+
+abbrev pub R04-position : Type 0
+R04-position = IsOnTheWire toTransmitter (CtrlPosition (record { channel = 4; order = 2 })) positionDown
+
+-- 2026-04: CTRL_TILT, channel 8, minus (1), 30.
+abbrev pub tiltMinus : List ℕ
+tiltMinus = 0x7E ∷ 0xF1 ∷ 0xFA ∷ 0xFF ∷ 0x00 ∷ 0x00 ∷ 0xFD ∷ 0xFF ∷ 0xFA ∷ 0xF7 ∷ 0xFE ∷ 0xE1 ∷ 0x09 ∷ 0x34 ∷ []
+
+abbrev pub R04-tilt : Type 0
+R04-tilt = IsOnTheWire toTransmitter (CtrlTilt (record { channel = 8; direction = 1; value = 30 })) tiltMinus
+
+-- 2026-04: GET_CHANNEL_MODE, channel 6, and its POST: US (1), rolling (0), Modulis (1).
+abbrev pub getMode : List ℕ
+getMode = 0x5F ∷ 0xF3 ∷ 0xFA ∷ 0xFF ∷ 0x00 ∷ 0x00 ∷ 0xFD ∷ 0xFF ∷ 0xFA ∷ 0xF9 ∷ 0x07 ∷ 0x3A ∷ []
+
+abbrev pub postMode : List ℕ
+postMode =
+    0x4F ∷ 0xF0 ∷ 0xAF ∷ 0xFD ∷ 0xFF ∷ 0xFA ∷ 0xFF ∷ 0x00 ∷ 0x00 ∷ 0xF9 ∷ 0xFE ∷ 0xFF ∷ 0xFE ∷ 0x09 ∷ 0xD7 ∷ []
+
+abbrev pub R04-mode : Type 0
+R04-mode =
+    IsOnTheWire toTransmitter (GetChannelMode 6) getMode × IsOnTheWire fromTransmitter (PostChannelMode (record { channel = 6; ergonomics = 1; movement = 0; modulis = 1 })) postMode
+
+-- 2026-04: SET_SUN_AUTO, channel 3: sun auto on is 0, off is 1.
+abbrev pub sunOn : List ℕ
+sunOn = 0x6C ∷ 0xF2 ∷ 0xFA ∷ 0xFF ∷ 0x00 ∷ 0x00 ∷ 0xFD ∷ 0xFF ∷ 0xFA ∷ 0xFC ∷ 0xFF ∷ 0x08 ∷ 0x48 ∷ []
+
+abbrev pub sunOff : List ℕ
+sunOff = 0x6C ∷ 0xF2 ∷ 0xFA ∷ 0xFF ∷ 0x00 ∷ 0x00 ∷ 0xFD ∷ 0xFF ∷ 0xFA ∷ 0xFC ∷ 0xFE ∷ 0x08 ∷ 0x47 ∷ []
+
+abbrev pub R04-sun : Type 0
+R04-sun = IsOnTheWire toTransmitter (SetSunAuto (record { channel = 3; off = 0 })) sunOn × IsOnTheWire toTransmitter (SetSunAuto (record { channel = 3; off = 1 })) sunOff
+
+-- 2026-04: SET_DCT_LOCK, input 2, lock (1): thirteen bytes. With the LEN that 002 prints, 0Ch, they are no frame; twelve
+-- bytes are a frame, with one byte of DATA.
+abbrev pub lockTwo : List ℕ
+lockTwo = 0x6B ∷ 0xF2 ∷ 0xFA ∷ 0xFF ∷ 0x00 ∷ 0x00 ∷ 0xFD ∷ 0xFF ∷ 0xFA ∷ 0xFD ∷ 0xFE ∷ 0x08 ∷ 0x47 ∷ []
+
+abbrev pub lockByPrintedLength : List ℕ
+lockByPrintedLength = 0x6B ∷ 0xF3 ∷ 0xFA ∷ 0xFF ∷ 0x00 ∷ 0x00 ∷ 0xFD ∷ 0xFF ∷ 0xFA ∷ 0xFD ∷ 0xFE ∷ 0x08 ∷ 0x48 ∷ []
+
+abbrev pub lockInTwelve : List ℕ
+lockInTwelve = 0x6B ∷ 0xF3 ∷ 0xFA ∷ 0xFF ∷ 0x00 ∷ 0x00 ∷ 0xFD ∷ 0xFF ∷ 0xFA ∷ 0xFD ∷ 0x07 ∷ 0x4A ∷ []
+
+abbrev pub R04-lock : Type 0
+R04-lock =
+    IsOnTheWire toTransmitter (SetDctLock (record { input = 2; lock = 1 })) lockTwo
+    × (receivedNumber (receivedOf lockByPrintedLength) ≡ 4)
+    × (receivedNumber (receivedOf lockInTwelve) ≡ 16)
+
+-- 2026-04: POST_TILT_FRAMECOUNT, channel 6, US 4, CE 13; and with the counts exchanged.
+abbrev pub postCounts : List ℕ
+postCounts = 0x4E ∷ 0xF1 ∷ 0xAF ∷ 0xFD ∷ 0xFF ∷ 0xFA ∷ 0xFF ∷ 0x00 ∷ 0x00 ∷ 0xF9 ∷ 0xFB ∷ 0xF2 ∷ 0x08 ∷ 0xC9 ∷ []
+
+abbrev pub countsExchanged : List ℕ
+countsExchanged =
+    0x4E ∷ 0xF1 ∷ 0xAF ∷ 0xFD ∷ 0xFF ∷ 0xFA ∷ 0xFF ∷ 0x00 ∷ 0x00 ∷ 0xF9 ∷ 0xF2 ∷ 0xFB ∷ 0x08 ∷ 0xC9 ∷ []
+
+abbrev pub R04-counts : Type 0
+R04-counts =
+    IsOnTheWire fromTransmitter (PostTiltFramecount (record { channel = 6; us = 4; ce = 13 })) postCounts
+    × (receivedOf countsExchanged ≡ Received.Message fromTransmitter (PostTiltFramecount (record { channel = 6; us = 13; ce = 4 })))
+
+-- 2026-04: POST_DCT_LOCK with all five inputs locked; with bit 6; and 83h, which is no message of the list.
+abbrev pub allLocked : List ℕ
+allLocked = 0x4B ∷ 0xF3 ∷ 0xAF ∷ 0xFD ∷ 0xFF ∷ 0xFA ∷ 0xFF ∷ 0x00 ∷ 0x00 ∷ 0xC1 ∷ 0x06 ∷ 0xA3 ∷ []
+
+abbrev pub bitSix : List ℕ
+bitSix = 0x4B ∷ 0xF3 ∷ 0xAF ∷ 0xFD ∷ 0xFF ∷ 0xFA ∷ 0xFF ∷ 0x00 ∷ 0x00 ∷ 0xBF ∷ 0x06 ∷ 0xA1 ∷ []
+
+abbrev pub unlisted : List ℕ
+unlisted = 0x7C ∷ 0xF2 ∷ 0xFA ∷ 0xFF ∷ 0x00 ∷ 0x00 ∷ 0xFD ∷ 0xFF ∷ 0xFA ∷ 0xFB ∷ 0xFD ∷ 0x08 ∷ 0x55 ∷ []
+
+abbrev pub R04-refused : Type 0
+R04-refused =
+    IsOnTheWire fromTransmitter (PostDctLock 0x3E) allLocked
+    × (receivedNumber (receivedOf bitSix) ≡ 15)
+    × (receivedNumber (receivedOf unlisted) ≡ 18)
+
+-- 2026-04: SET_CHANNEL with channel 16, and with a byte of DATA too many behind it: its count comes before its range.
+abbrev pub channelSixteen : List ℕ
+channelSixteen = 0x68 ∷ 0xF3 ∷ 0xFA ∷ 0xFF ∷ 0x00 ∷ 0x00 ∷ 0xFD ∷ 0xFF ∷ 0xFA ∷ 0xEF ∷ 0x07 ∷ 0x39 ∷ []
+
+abbrev pub oneByteMore : List ℕ
+oneByteMore = 0x68 ∷ 0xF2 ∷ 0xFA ∷ 0xFF ∷ 0x00 ∷ 0x00 ∷ 0xFD ∷ 0xFF ∷ 0xFA ∷ 0xEF ∷ 0xFF ∷ 0x08 ∷ 0x37 ∷ []
+
+abbrev pub R04-count-first : Type 0
+R04-count-first =
+    (receivedNumber (receivedOf channelSixteen) ≡ 15) × (receivedNumber (receivedOf oneByteMore) ≡ 16)
+
+-- 2026-04: the order of the writer's refusals, in a buffer without room: 10, 11, 15, 14.
+abbrev pub tooFar : Envelope
+tooFar =
+    record { ack = false; sender = 16; receiver = 5; source = address 0xFFFF00; destination = address 0x1000000 }
+
+abbrev pub tooHigh : Envelope
+tooHigh = record { ack = false; sender = 16; receiver = 5; source = address 0xFFFF00; destination = address 0x050002 }
+
+abbrev pub R04-order : Type 0
+R04-order =
+    (map (λ (e : Envelope). writeNumber (writtenOf 11 0 e (SetIp 16))) (tooFar ∷ tooHigh ∷ toTransmitter ∷ []) ≡ 10 ∷ 11 ∷ 15 ∷ [])
+    × (writeNumber (writtenOf 11 0 toTransmitter (SetIp 15)) ≡ 14)
+
 abbrev pub requestFigures : List (Type 0)
 requestFigures =
     R01-serial
@@ -191,4 +332,13 @@ requestFigures =
     ∷ R03-called
     ∷ R03-refused
     ∷ R03-in-order
+    ∷ R04-position
+    ∷ R04-tilt
+    ∷ R04-mode
+    ∷ R04-sun
+    ∷ R04-lock
+    ∷ R04-counts
+    ∷ R04-refused
+    ∷ R04-count-first
+    ∷ R04-order
     ∷ []

@@ -3,6 +3,7 @@
 use Prim.Native.Nat.{ℕ, _+_, _-_, _*_, _≤_, _<_}
 use mathlib.Core.Path.{_≡_}
 use mathlib.Core.Logic.{_≢_, _↔_, _⊎_}
+use mathlib.Core.Bool.{true, false}
 use mathlib.Core.List.{List, [], _∷_, _++_}
 use mathlib.Core.Option.{none}
 use lib.ListN.{length, getD, take}
@@ -22,7 +23,13 @@ use Rattle.motors.specs.Filing.{filedOf, struckOf}
 use Rattle.motors.specs.declared.motor.Motor.{Motor}
 use Rattle.form.specs.Reading.{readOf}
 use Rattle.form.specs.Writing.{writtenOf}
-use Rattle.promises.specs.Wire.{raw, message, ext, len, summed, stated, source, destination, dataCount}
+use Rattle.rts.specs.{
+  Table.{numberOf as messageNumber, dataOf as contentOf, inRange},
+  Reading.{receivedOf},
+  Writing.{writtenOf as messageWritten},
+  declared.{envelope.Envelope.{Envelope}, message.Message.{Message}},
+}
+use Rattle.promises.specs.Wire.{raw, message, ext, len, summed, stated, source, destination, dataCount, dataOf}
 use Rattle.promises.specs.ReaderInRange.{ReaderInRange}
 use Rattle.promises.specs.BoardInRange.{SettingsInRange, BoardInRange}
 use Rattle.promises.specs.Groups.{Groups}
@@ -36,6 +43,7 @@ use Rattle.promises.specs.Numbers.{
   turnNumber,
   registerNumber,
   formNumber,
+  receivedNumber,
   noFrame,
 }
 
@@ -114,6 +122,26 @@ readFormRows run b =
     ∷ 44 when (¬ ((i : ℕ) → i < storedCount b → BodyRight b (storedCount b) i))
     ∷ []
 
+-- ---- the transmitter's messages
+-- A bundle read: no message has its MSG; none of that MSG has so many bytes of DATA; none of that MSG and DATA is in
+-- range.
+abbrev pub receiveRows : List ℕ → List Row
+receiveRows b =
+    bundleRows b
+    ++ 18 when (¬ ((m : Message) × (messageNumber m ≡ message b)))
+    ∷ 16 when (¬ ((m : Message) × ((messageNumber m ≡ message b) × (length (contentOf m) ≡ dataCount b))))
+    ∷ 15 when (¬ ((m : Message) × ((messageNumber m ≡ message b) × ((contentOf m ≡ dataOf b) × (inRange m .holds ≡ true)))))
+    ∷ []
+
+-- A message to be written: rows 12 and 13 cannot apply.
+abbrev pub sendRows : (room place : ℕ) → Envelope → Message → List Row
+sendRows room place e m =
+    10 when ((0xFFFFFF < e .source .0) ⊎ (0xFFFFFF < e .destination .0))
+    ∷ 11 when ((15 < e .sender) ⊎ (15 < e .receiver))
+    ∷ 15 when (inRange m .holds ≡ false)
+    ∷ 14 when ((room < place) ⊎ (room - place < 11 + length (contentOf m)))
+    ∷ []
+
 pub record Rows : Type 1 where
   -- one of a list is what stands at a place of it
   pub one-of-a-list : (x : ℕ) (l : List ℕ) → IsOneOf x l ↔ ((place : ℕ) × ((place < length l) × (getD l place 0 ≡ x)))
@@ -162,3 +190,8 @@ pub record Rows : Type 1 where
       (run : List Motor) (count : ℕ) (buffer : List ℕ)
       → FirstOf (19 when (¬ RegisterInRange run count) ∷ 45 when (length buffer < 3 + 11 * count) ∷ [])
       (formNumber (writtenOf run count (length buffer)))
+  -- the transmitter's messages
+  pub read-message : (b : List ℕ) → FirstOf (receiveRows b) (receivedNumber (receivedOf b))
+  pub write-message :
+      (buffer : List ℕ) (place : ℕ) (e : Envelope) (m : Message)
+      → FirstOf (sendRows (length buffer) place e m) (writeNumber (messageWritten (length buffer) place e m))
