@@ -13,6 +13,7 @@ use libc::STDOUT_FILENO;
 use register_room::at_register;
 use register_room::put_register;
 use register_room::unkept;
+use rts_room::put_rts;
 use wire_room::at_wire;
 use wire_room::unheard;
 
@@ -47,6 +48,7 @@ fn main() {
         at = put_register(kept, order, &mut out, at);
         heard = at_wire(heard, order, hex);
         at = put_said(&mut out, at, heard.said);
+        at = put_rts(order, hex, &mut out, at);
         at = write_out(&out, at, input);
         if input.have == 0 {
             break;

@@ -10,7 +10,7 @@ use std::num::wrapping_add_usize;
 // A command, by its place in the table, and a number for each word behind its name.
 pub struct Order {
     pub command: usize,
-    pub numbers: [u32; 8],
+    pub numbers: [u32; 10],
     // How many bytes the last word has, where it is HEX.
     pub count: usize,
 }
@@ -47,18 +47,23 @@ pub const CLOSE: usize = 14;
 
 pub const WRITE: usize = 15;
 
+pub const RTS: usize = 16;
+
+// With no field, and so on up to four.
+pub const RTS_WRITE: usize = 17;
+
 // No command, or malformed: the place behind the table.
-pub const BAD: usize = 16;
+pub const BAD: usize = 22;
 
 // An empty line or a comment.
-const PASS: usize = 17;
+const PASS: usize = 23;
 
 // The longest line that is one.
 const LONGEST: usize = 8192;
 
 impl Order {
     pub fn large(self, which: usize) -> u32 {
-        let place = which % 8;
+        let place = which % 10;
         self.numbers[place]
     }
 
@@ -77,7 +82,7 @@ impl Order {
 
     // With one word more; a malformed one makes it a bad line.
     fn with(mut self, which: usize, value: u64, count: usize) -> Order {
-        let place = which % 8;
+        let place = which % 10;
         self.numbers[place] = (value % MALFORMED) as u32;
         self.count = count;
         if value == MALFORMED {
@@ -104,7 +109,13 @@ pub fn order_of(line: &[u8], bytes: &mut [u8; 4096]) -> Order {
         load 0;\
         byte 1m;\
         close ;\
-        write 1tssll0";
+        write 1tssll0;\
+        rts 0;\
+        rtswrite 1tssll;\
+        rtswrite 1tsslls;\
+        rtswrite 1tssllss;\
+        rtswrite 1tssllsss;\
+        rtswrite 1tssllssss";
     let command = command_of(table, line);
     read(
         command,
@@ -144,7 +155,7 @@ fn row_named(table: &[u8], name: &[u8], words: usize) -> usize {
 fn read(command: usize, kinds: &[u8], line: &[u8], bytes: &mut [u8; 4096]) -> Order {
     let mut order = Order {
         command,
-        numbers: [0; 8],
+        numbers: [0; 10],
         count: 0,
     };
     for i in 0..kinds.len() {

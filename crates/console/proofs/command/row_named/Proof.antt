@@ -6,10 +6,10 @@ use Rattle.console.proofs.command.row_named.Statement.{statement}
 use Rattle.console.proofs.command.row_named.Tie as tie
 
 abbrev Inv-loop : tie.InvT-loop
-Inv-loop table name words number₀ number = number ≤ 16
+Inv-loop table name words number₀ number = number ≤ 22
 
 abbrev μ-loop : tie.MeasureT-loop
-μ-loop table name words number₀ number = 16 - number
+μ-loop table name words number₀ number = 22 - number
 
 pub row-named-spec : {M : Type 1} → statement M
 row-named-spec =
