@@ -8,13 +8,14 @@
 #include "frame.h"
 #include "messages.h"
 #include "refusal.h"
+#include "rts.h"
 #include "words.h"
 
 /* ------------------------------------------------------------------------
  * Commands
  * ------------------------------------------------------------------------ */
 
-/* Each takes the words behind its name; false when they are malformed. */
+/* Each takes the words behind its name, an empty one behind the last; false when they are malformed. */
 typedef bool command(struct console *console, const struct word *words, struct rows *rows);
 
 /* Before a successful "node" the commands of the board write "no node". */
@@ -212,6 +213,46 @@ static bool write_command(struct console *console, const struct word *words, str
     return true;
 }
 
+static bool rts_command(struct console *console, const struct word *words, struct rows *rows)
+{
+    (void)console;
+    struct bytes bundle;
+    struct rts rts;
+    if (!read_hex(&words[0], &bundle))
+        return false;
+    enum refusal refusal = read_rts(bundle.bytes, bundle.count, &rts);
+    if (refusal == ACCEPTED)
+        say_rts(rows, &rts);
+    else
+        say_outcome(rows, refusal, "");
+    return true;
+}
+
+/* As many FIELDS as the message has and no more; an empty word, where the line ends, is no field. */
+static bool read_fields(const struct word *words, struct rts *rts)
+{
+    int count = rts_data_count(rts->header.message);
+    for (int at = 0; at < count; at++)
+        if (!read_u8(&words[at], &rts->fields.data[at]))
+            return false;
+    return count != NOT_LISTED && words[count].length == 0;
+}
+
+static bool rtswrite_command(struct console *console, const struct word *words, struct rows *rows)
+{
+    (void)console;
+    struct rts rts;
+    uint8_t buffer[BUNDLE_LONGEST];
+    if (!read_header(words, &rts.header) || !read_fields(words + 6, &rts))
+        return false;
+    enum refusal refusal = write_rts(&rts, buffer, sizeof buffer, 0);
+    if (refusal == ACCEPTED)
+        say_hex(rows, "wire", buffer, rts_length(rts.header.message));
+    else
+        say_outcome(rows, refusal, "");
+    return true;
+}
+
 struct command_row {
     const char *name;
     size_t words;  /* behind the name */
@@ -235,6 +276,12 @@ static const struct command_row command_table[] = {
     {"byte", 2, byte_command},
     {"close", 0, close_command},
     {"write", 7, write_command},
+    {"rts", 1, rts_command},
+    {"rtswrite", 6, rtswrite_command},
+    {"rtswrite", 7, rtswrite_command},
+    {"rtswrite", 8, rtswrite_command},
+    {"rtswrite", 9, rtswrite_command},
+    {"rtswrite", 10, rtswrite_command},
 };
 
 enum { COMMANDS = sizeof command_table / sizeof command_table[0] };
@@ -245,7 +292,7 @@ enum { COMMANDS = sizeof command_table / sizeof command_table[0] };
 
 static bool obey_line(struct console *console, const uint8_t *line, size_t length, struct rows *rows)
 {
-    struct word words[WORDS_MOST];
+    struct word words[WORDS_MOST + 1];
     size_t count = split_words(line, length, words);
     for (size_t at = 0; count > 0 && at < COMMANDS; at++)
         if (is_word(&words[0], command_table[at].name) && count == command_table[at].words + 1)

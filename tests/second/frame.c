@@ -7,11 +7,6 @@ bool is_node_id(uint32_t address)
     return address >= NODE_ID_FIRST && address <= NODE_ID_LAST;
 }
 
-uint8_t inverted(uint8_t byte)
-{
-    return (uint8_t)~byte;
-}
-
 /* Fields of several bytes go low byte first. */
 uint16_t two_bytes(const uint8_t *bytes)
 {
@@ -39,10 +34,10 @@ void put_three_bytes(uint8_t *bytes, uint32_t value)
 /* The checksum is the sum of the inverted bytes, as they stand on the wire. */
 uint16_t sum_of(const uint8_t *bytes, size_t count)
 {
-    uint16_t sum = 0;
+    uint32_t sum = 0;
     for (size_t at = 0; at < count; at++)
-        sum = (uint16_t)(sum + bytes[at]);
-    return sum;
+        sum += bytes[at];
+    return (uint16_t)sum;
 }
 
 /* The checksum's own two bytes: high byte first, not inverted. */
@@ -71,16 +66,16 @@ enum refusal check_bundle(const uint8_t *bundle, size_t count)
     return ACCEPTED;
 }
 
-static struct header header_of(const uint8_t *raw)
+/* The header of a bundle that check_bundle takes. */
+void take_header(const uint8_t *bundle, struct header *header)
 {
-    return (struct header){
-        .message = raw[0],
-        .acknowledge = (raw[1] & ACK_BIT) != 0,
-        .sender_type = raw[2] >> 4,
-        .receiver_type = raw[2] & 0x0F,
-        .source = three_bytes(raw + 3),
-        .destination = three_bytes(raw + 6),
-    };
+    uint8_t types = inverted(bundle[2]);
+    header->message = inverted(bundle[0]);
+    header->acknowledge = (inverted(bundle[1]) & ACK_BIT) != 0;
+    header->sender_type = types >> 4;
+    header->receiver_type = types & 0x0F;
+    header->source = three_bytes(bundle + 3) ^ ADDRESS_LAST;
+    header->destination = three_bytes(bundle + 6) ^ ADDRESS_LAST;
 }
 
 enum refusal read_frame(const uint8_t *bundle, size_t count, struct frame *frame)
@@ -88,18 +83,15 @@ enum refusal read_frame(const uint8_t *bundle, size_t count, struct frame *frame
     enum refusal refusal = check_bundle(bundle, count);
     if (refusal != ACCEPTED)
         return refusal;
-    uint8_t raw[BUNDLE_LONGEST];
-    for (size_t at = 0; at < count; at++)
-        raw[at] = inverted(bundle[at]);
-    frame->header = header_of(raw);
-    frame->data_count = count - HEADER_LENGTH - CHECKSUM_LENGTH;
+    take_header(bundle, &frame->header);
+    frame->data_count = count - frame_length(0);
     for (size_t at = 0; at < frame->data_count; at++)
-        frame->data[at] = raw[HEADER_LENGTH + at];
+        frame->data[at] = inverted(bundle[HEADER_LENGTH + at]);
     return ACCEPTED;
 }
 
-/* Rows 10 to 13; row 14 cannot arise, a wire has room for every frame. */
-static enum refusal check_writing(const struct header *header, size_t data_count)
+/* Rows 10 to 13. */
+enum refusal check_writing(const struct header *header, size_t data_count)
 {
     if (header->source > ADDRESS_LAST || header->destination > ADDRESS_LAST)
         return WRITE_ADDRESS;
@@ -112,31 +104,37 @@ static enum refusal check_writing(const struct header *header, size_t data_count
     return ACCEPTED;
 }
 
-/* Inverts the first bytes of a wire in place and puts their sum behind them. */
-static void seal_wire(struct wire *wire, size_t count)
+/* Row 14: less room from the place on than the frame needs, or a place past the end. */
+enum refusal check_room(size_t room, size_t place, size_t length)
 {
-    for (size_t at = 0; at < count; at++)
-        wire->bytes[at] = inverted(wire->bytes[at]);
-    uint16_t sum = sum_of(wire->bytes, count);
-    wire->bytes[count] = (uint8_t)(sum >> 8);
-    wire->bytes[count + 1] = (uint8_t)sum;
-    wire->count = count + CHECKSUM_LENGTH;
+    return place <= room && room - place >= length ? ACCEPTED : WRITE_ROOM;
 }
 
+/* The bytes of a frame that check_writing takes, and no others: inverted, and then their sum. */
+void put_frame(uint8_t *bytes, const struct header *header, const uint8_t *data, size_t data_count)
+{
+    size_t length = frame_length(data_count);
+    size_t summed = length - CHECKSUM_LENGTH;
+    bytes[0] = inverted(header->message);
+    bytes[1] = inverted((uint8_t)(length | (header->acknowledge ? ACK_BIT : 0)));
+    bytes[2] = inverted((uint8_t)(header->sender_type << 4 | header->receiver_type));
+    put_three_bytes(bytes + 3, ~header->source);
+    put_three_bytes(bytes + 6, ~header->destination);
+    for (size_t at = 0; at < data_count; at++)
+        bytes[HEADER_LENGTH + at] = inverted(data[at]);
+    uint16_t sum = sum_of(bytes, summed);
+    bytes[summed] = (uint8_t)(sum >> 8);
+    bytes[summed + 1] = (uint8_t)sum;
+}
+
+/* Row 14 cannot arise, a wire has room for every frame. */
 enum refusal write_frame(const struct header *header, const uint8_t *data,
                          size_t data_count, struct wire *wire)
 {
     enum refusal refusal = check_writing(header, data_count);
     if (refusal != ACCEPTED)
         return refusal;
-    size_t length = HEADER_LENGTH + data_count + CHECKSUM_LENGTH;
-    wire->bytes[0] = header->message;
-    wire->bytes[1] = (uint8_t)(length | (header->acknowledge ? ACK_BIT : 0));
-    wire->bytes[2] = (uint8_t)(header->sender_type << 4 | header->receiver_type);
-    put_three_bytes(wire->bytes + 3, header->source);
-    put_three_bytes(wire->bytes + 6, header->destination);
-    for (size_t at = 0; at < data_count; at++)
-        wire->bytes[HEADER_LENGTH + at] = data[at];
-    seal_wire(wire, length - CHECKSUM_LENGTH);
+    put_frame(wire->bytes, header, data, data_count);
+    wire->count = frame_length(data_count);
     return ACCEPTED;
 }

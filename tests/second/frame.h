@@ -81,7 +81,17 @@ struct wire {
 
 bool is_node_id(uint32_t address);
 
-uint8_t inverted(uint8_t byte);
+static inline uint8_t inverted(uint8_t byte)
+{
+    return (uint8_t)~byte;
+}
+
+/* The whole frame's length, which LEN tells. */
+static inline size_t frame_length(size_t data_count)
+{
+    return HEADER_LENGTH + data_count + CHECKSUM_LENGTH;
+}
+
 uint16_t two_bytes(const uint8_t *bytes);
 uint32_t three_bytes(const uint8_t *bytes);
 void put_two_bytes(uint8_t *bytes, uint16_t value);
@@ -89,7 +99,12 @@ void put_three_bytes(uint8_t *bytes, uint32_t value);
 uint16_t sum_of(const uint8_t *bytes, size_t count);
 
 enum refusal check_bundle(const uint8_t *bundle, size_t count);
+void take_header(const uint8_t *bundle, struct header *header);
 enum refusal read_frame(const uint8_t *bundle, size_t count, struct frame *frame);
+
+enum refusal check_writing(const struct header *header, size_t data_count);
+enum refusal check_room(size_t room, size_t place, size_t length);
+void put_frame(uint8_t *bytes, const struct header *header, const uint8_t *data, size_t data_count);
 enum refusal write_frame(const struct header *header, const uint8_t *data,
                          size_t data_count, struct wire *wire);
 

@@ -1,4 +1,4 @@
-/* The rows of "Numbers given back" that the console can reach. */
+/* The rows of "Numbers given back" that are given here; all but 14 the console can reach. */
 
 #ifndef SECOND_REFUSAL_H
 #define SECOND_REFUSAL_H
@@ -15,6 +15,10 @@ enum refusal {
     WRITE_NODE_TYPE = 11,
     WRITE_DATA = 12,
     WRITE_MESSAGE = 13,
+    WRITE_ROOM = 14,
+    RTS_FIELD = 15,
+    RTS_DATA_COUNT = 16,
+    RTS_MESSAGE = 18,
     REGISTER_LINE = 20,
     REGISTER_SENDER = 21,
     REGISTER_MESSAGE = 22,

@@ -53,6 +53,18 @@ void say_motor(struct rows *rows, const struct motor *motor)
         say(rows, "-\n");
 }
 
+/* The header, then the DATA fields in order; a message without fields ends after DEST. */
+void say_rts(struct rows *rows, const struct rts *rts)
+{
+    const struct header *header = &rts->header;
+    say(rows, "rts %02X %d %u %u %lu %lu", (unsigned)header->message, (int)header->acknowledge,
+        (unsigned)header->sender_type, (unsigned)header->receiver_type, (unsigned long)header->source,
+        (unsigned long)header->destination);
+    for (int at = 0; at < rts_data_count(header->message); at++)
+        say(rows, " %u", (unsigned)rts->fields.data[at]);
+    say(rows, "\n");
+}
+
 static void say_pulse_or_none(struct rows *rows, bool some, uint16_t pulse)
 {
     if (some)

@@ -10,6 +10,7 @@
 #include "reader.h"
 #include "refusal.h"
 #include "register.h"
+#include "rts.h"
 
 /* The rows that answer one line; the longest is a full register. */
 struct rows {
@@ -22,6 +23,7 @@ void say_hex(struct rows *rows, const char *name, const uint8_t *bytes, size_t c
 void say_outcome(struct rows *rows, enum refusal refusal, const char *accepted);
 void say_bundle(struct rows *rows, const struct bundle_answer *answer);
 void say_motor(struct rows *rows, const struct motor *motor);
+void say_rts(struct rows *rows, const struct rts *rts);
 void say_board(struct rows *rows, const struct board *board);
 
 #endif

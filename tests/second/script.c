@@ -12,6 +12,7 @@
 #include "script_line.h"
 #include "script_malformed.h"
 #include "script_register.h"
+#include "script_rts.h"
 #include "script_set_up.h"
 #include "script_wire.h"
 
@@ -45,6 +46,7 @@ static const struct activity activities[] = {
 };
 
 enum { ACTIVITIES = sizeof activities / sizeof activities[0] };
+enum { RTS_SHARE = 8 };  /* one line in so many is about the RTS transmitter, in every phase */
 
 static uint32_t weight_of_phase(int phase)
 {
@@ -74,7 +76,9 @@ static void build_line(struct script *script)
     if (script->phase_left == 0)
         change_phase(script);
     script->phase_left--;
-    if (script->pending_at < script->pending.count && chance(script, 90))
+    if (below(script, RTS_SHARE) == 0)
+        rts_line(script);
+    else if (script->pending_at < script->pending.count && chance(script, 90))
         pending_byte_line(script);
     else if (script->looks_left > 0 && chance(script, 60))
         look_line(script);

@@ -28,7 +28,8 @@ uint8_t any_message(struct script *script)
         return row_at(below(script, MESSAGES))->message;
     return (uint8_t)ONE_OF(script, 0x0D, 0x0F, 0x33, 0x35, 0x36, 0x37, 0x60, 0x61, 0x65, 0x6C, 0x6F, 0x71,
                            0x75, 0x7F, 0x00, 0x01, 0x04, 0x05, 0x13, 0x17, 0x1F, 0x23, 0x27, 0x44, 0x4B,
-                           0x54, 0x56, 0x70, 0x70, 0x73, 0x80, 0x90, 0xA0, 0xB0, 0xFE, below(script, 255));
+                           0x54, 0x56, 0x70, 0x70, 0x73, 0x80, 0x90, 0xA0, 0xB0, 0xB1, 0xB2, 0xB4, 0xFE,
+                           below(script, 255));
 }
 
 /* Exactly the least, one less, or more. */
@@ -54,7 +55,7 @@ struct loose_bundle bundle_of(const struct frame *frame)
 }
 
 /* Makes the checksum right again after a byte before it was changed. */
-static void reseal(struct loose_bundle *bundle)
+void reseal(struct loose_bundle *bundle)
 {
     size_t summed = bundle->count - CHECKSUM_LENGTH;
     uint16_t sum = sum_of(bundle->bytes, summed);

@@ -14,6 +14,7 @@ uint8_t any_message(struct script *script);
 size_t any_data_count(struct script *script, size_t least);
 
 struct loose_bundle bundle_of(const struct frame *frame);
+void reseal(struct loose_bundle *bundle);
 void damage_bundle(struct script *script, struct loose_bundle *bundle);
 
 #endif

@@ -1,8 +1,8 @@
 /*
  * The second program: one board, one register of motors and one line reader
- * behind the console language of BENCH.md.  It follows document 01, request
- * 2026-01 of document 02, and BENCH.md, shares nothing with the bench, and is
- * compared with it row by row.
+ * behind the console language of BENCH.md.  It follows document 01, requests
+ * 2026-01 to 2026-04 of document 02, and BENCH.md, shares nothing with the
+ * bench, and is compared with it row by row.
  *
  *   second                      the console, over standard input and output
  *   second script SEED COUNT    writes a random script of COUNT answered lines

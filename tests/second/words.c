@@ -4,8 +4,8 @@
 
 #include <string.h>
 
-/* Splits at single spaces; 0 when a word is empty or there are too many. */
-size_t split_words(const uint8_t *line, size_t length, struct word *words)
+/* Splits at single spaces, with an empty word behind the last; 0 when a word is empty or there are too many. */
+size_t split_words(const uint8_t *line, size_t length, struct word words[WORDS_MOST + 1])
 {
     size_t count = 0;
     size_t start = 0;
@@ -17,6 +17,7 @@ size_t split_words(const uint8_t *line, size_t length, struct word *words)
         words[count++] = (struct word){.start = line + start, .length = at - start};
         start = at + 1;
     }
+    words[count] = (struct word){.start = line + length, .length = 0};
     return count;
 }
 

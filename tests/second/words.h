@@ -9,7 +9,7 @@
 
 enum {
     LINE_LONGEST = 8192,
-    WORDS_MOST = 8,
+    WORDS_MOST = 11,
     DECIMAL_DIGITS_MOST = 10
 };
 
@@ -23,7 +23,7 @@ struct bytes {
     size_t count;
 };
 
-size_t split_words(const uint8_t *line, size_t length, struct word *words);
+size_t split_words(const uint8_t *line, size_t length, struct word words[WORDS_MOST + 1]);
 bool is_word(const struct word *word, const char *text);
 
 bool read_hex(const struct word *word, struct bytes *bytes);
