@@ -28,6 +28,7 @@
 
 /* The second program's files, in one unit, so that calls from one to another can be inlined. */
 #include "second/frame.c"
+#include "second/rts.c"
 #include "second/reader.c"
 #include "second/travel.c"
 #include "second/plate.c"
@@ -38,6 +39,7 @@
 #include "second/words.c"
 #include "second/script_line.c"
 #include "second/script_frame.c"
+#include "second/script_rts.c"
 #include "second/script_board.c"
 #include "second/script_register.c"
 
@@ -58,9 +60,8 @@ static bool are_same(const char *title, enum side side, uint64_t proved, uint64_
 }
 
 /* A frame's bundle, of which one in a hundred has its last byte changed; gives its length. */
-static uint8_t put_bundle(uint8_t *bytes, const struct frame *frame)
+static uint8_t put_bundle(uint8_t *bytes, struct loose_bundle bundle)
 {
-    struct loose_bundle bundle = bundle_of(frame);
     if (chance(&script, 1))
         bundle.bytes[bundle.count - 1] ^= 1;
     memcpy(bytes, bundle.bytes, bundle.count);
@@ -68,6 +69,7 @@ static uint8_t put_bundle(uint8_t *bytes, const struct frame *frame)
 }
 
 #include "beside_frames.c"
+#include "beside_messages.c"
 #include "beside_register.c"
 
 /* ------------------------------------------------------------------------
@@ -86,6 +88,7 @@ struct row {
 static const struct row rows[] = {
     {"bytes through the reader's run", requests_to_board, 0, over_bytes, 0, false},
     {"bundles read and written", requests_to_board, 0, over_bundles, SLOTS, false},
+    {"transmitter's messages read and written", transmitter_messages, 0, over_messages, SLOTS, false},
     {"board turns over a mix of messages", requests_to_board, 0, over_turns, SLOTS, true},
     {"position reports, each at another pulse", position_requests, 0, over_turns, SLOTS, true},
     {"register filings, 10 motors held", filings, 10, over_calls, CALLS, true},

@@ -204,7 +204,7 @@ static void requests_to_board(uint32_t motors)
         uint8_t *slot = work.slots + SLOT * number;
         bool unlock = board->locked && chance(&script, 20);
         struct frame request = unlock ? unlocking_request(&script) : any_request(&script);
-        slot[0] = put_bundle(slot + 1, &request);
+        slot[0] = put_bundle(slot + 1, bundle_of(&request));
         struct wire sent;
         bundle_to_board(board, slot + 1, slot[0], &sent);
     }

@@ -124,7 +124,7 @@ static void report_of(struct call *call, uint32_t motor, bool position)
     };
     while (position && !is_percent_and_favourite(report.data[2], report.data[4]))
         reading_data(&script, report.data);
-    call->count = put_bundle(call->bundle, &report);
+    call->count = put_bundle(call->bundle, bundle_of(&report));
 }
 
 /* So many motors name themselves; then they report their positions, in any order. */

@@ -23,6 +23,7 @@ _Static_assert(sizeof(struct record) == 16, "a record has no padding");
 
 uint64_t speed_reader(const uint8_t *bytes, size_t count, const uint16_t *silences, size_t silence_count);
 uint64_t speed_bundles(const uint8_t *slots, size_t size, uint8_t *buffer, size_t room);
+uint64_t speed_messages(const uint8_t *slots, size_t size, uint8_t *buffer, size_t room);
 uint64_t speed_board(const uint8_t *slots, size_t size, uint32_t node_id, uint8_t type, uint16_t travel);
 uint64_t speed_file(struct record *run, size_t places, size_t held, uint8_t line, const uint8_t *bundle, size_t count);
 uint64_t speed_strike(struct record *run, size_t places, size_t held, uint8_t line, uint32_t node);

@@ -2,6 +2,7 @@
 // code has to give as well.
 mod bundles;
 mod filings;
+mod messages;
 mod recording;
 mod slots;
 mod turns;
