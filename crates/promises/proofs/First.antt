@@ -90,12 +90,14 @@ same-number (in-other-words same later) (passes n l) = passes (λ f. n (same .1 
 
 -- A row that stays, and what is behind it told otherwise; and a row that never applies.
 module _ {otherwise : ℕ → Type 0} where
-  pub behind : {number given : ℕ} {fact : Type 0} {rows more : List Row} → (First otherwise rows given → First otherwise more given) → First otherwise (number when fact ∷ rows) given
+  pub behind : {number given : ℕ} {fact : Type 0} {rows more : List Row} → (First otherwise rows given → First otherwise more given)
+      → First otherwise (number when fact ∷ rows) given
       → First otherwise (number when fact ∷ more) given
   behind later (applies f) = applies f
   behind later (passes n l) = passes n (later l)
 
-  pub never-applies : {number given : ℕ} {fact : Type 0} {rows : List Row} → ¬ fact → First otherwise (number when fact ∷ rows) given → First otherwise rows given
+  pub never-applies : {number given : ℕ} {fact : Type 0} {rows : List Row} → ¬ fact
+      → First otherwise (number when fact ∷ rows) given → First otherwise rows given
   never-applies never (applies f) = absurd (never f)
   never-applies never (passes n l) = l
 

@@ -36,7 +36,7 @@ use Rattle.rts.specs.{
 use Rattle.rts.proofs.Lines.{at-most-four, no-reserved-number}
 use Rattle.rts.proofs.Spelling.{spelled-number, spelled-data, one-message, one-count, unlisted}
 use Rattle.promises.specs.Numbers.{writeNumber, receivedNumber}
-use Rattle.promises.specs.Rows.{_when_, FirstOf, applies, passes, receiveRows, sendRows}
+use Rattle.promises.specs.Rows.{_when_, FirstOf, applies, passes, typedRows, receiveRows, sendRows}
 use Rattle.promises.proofs.First.{first, first-then, same-number, at-the-end, in-other-words, as-it-is, behind, never-applies}
 
 -- ---- read
@@ -87,18 +87,21 @@ module _ (b : List ℕ) where
         same-number (in-other-words fits λ n. in-other-words (said (counted n)) λ k. at-the-end)
         (first receivedNumber (checkTable (dataCount b) m) (Received.Message envelope m) refl)
 
-  spelled-rows : (s : Spelled) → spelling ≡ s
-      → FirstOf (18 when (¬ ((m : Message) × (numberOf m ≡ message b))) ∷ 16 when (¬ ((m : Message) × Fits m)) ∷ 15 when (¬ ((m : Message) × Said m)) ∷ [])
-      (receivedNumber (listed envelope (dataCount b) s))
-  spelled-rows Spelled.Unlisted none = let no-such : ¬ ((m : Message) × (numberOf m ≡ message b)) = λ (m, e). unlisted (message b) (fourOf (dataOf b)) none m e in applies no-such
-  spelled-rows (Spelled.Message m) spelled = passes (λ (none : ¬ ((n : Message) × (numberOf n ≡ message b))). none (m, number m spelled)) (checked m spelled)
+  abbrev Listed : Type 0
+  Listed = (m : Message) × (numberOf m ≡ message b)
+
+  spelled-rows : (s : Spelled) → spelling ≡ s → FirstOf (typedRows b) (receivedNumber (listed envelope (dataCount b) s))
+  spelled-rows Spelled.Unlisted none =
+      let no-such : ¬ Listed = λ (m, e). unlisted (message b) (fourOf (dataOf b)) none m e in
+      applies no-such
+  spelled-rows (Spelled.Message m) spelled =
+      passes (λ (none : ¬ Listed). none (m, number m spelled)) (checked m spelled)
 
   pub read-message : FirstOf (receiveRows b) (receivedNumber (receivedOf b))
   unfolding receivedOf readingOf
   read-message =
       first-then (λ (x : Reading). receivedNumber (receivedBy b x)) (bundleTable b) (Reading.Frame (headerOf b) (dataCount b))
-      (18 when (¬ ((m : Message) × (numberOf m ≡ message b))) ∷ 16 when (¬ ((m : Message) × Fits m)) ∷ 15 when (¬ ((m : Message) × Said m)) ∷ [])
-      (λ facts. spelled-rows spelling refl)
+      (typedRows b) (λ facts. spelled-rows spelling refl)
 
 -- ---- written
 module _ (buffer : List ℕ) (place : ℕ) (e : Envelope) (m : Message) where

@@ -1,6 +1,7 @@
 -- The requests' worked figures hold: both sides compute to the same.
 -- Assumes nothing.
 use mathlib.Core.Path.{refl}
+use mathlib.Core.List.{List, [], _∷_}
 use Rattle.meaning.specs.Every.{every}
 use Rattle.frame.specs.{Reading.{readingOf}, Writing.{writingOf, writingWith}}
 use Rattle.board.specs.{Favourites.{ipsWithin}, Groups.{inTable}}
@@ -103,6 +104,14 @@ message-order : R04-order
 unfolding readingOf writingWith spelledBy receivedOf
 message-order = (refl, refl)
 
+-- Those of 2026-04.
+abbrev messageFigures : List (Type 0)
+messageFigures =
+    R04-position ∷ R04-tilt ∷ R04-mode ∷ R04-sun ∷ R04-lock ∷ R04-counts ∷ R04-refused ∷ R04-count-first ∷ R04-order ∷ []
+
+messages-hold : AllHold messageFigures
+messages-hold =
+    (message-position, (message-tilt, (message-mode, (message-sun, (message-lock, (message-counts, (message-refused, (message-count-first, (message-order, tt)))))))))
+
 pub all-hold : AllHold requestFigures
-all-hold =
-    (serial, (asked, (told, (version, (halves, (stored, (by-number, (out-of-range, (in-order, (message-position, (message-tilt, (message-mode, (message-sun, (message-lock, (message-counts, (message-refused, (message-count-first, (message-order, tt))))))))))))))))))
+all-hold = (serial, (asked, (told, (version, (halves, (stored, (by-number, (out-of-range, (in-order, messages-hold)))))))))

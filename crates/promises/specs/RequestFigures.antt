@@ -239,7 +239,9 @@ postMode =
 
 abbrev pub R04-mode : Type 0
 R04-mode =
-    IsOnTheWire toTransmitter (GetChannelMode 6) getMode × IsOnTheWire fromTransmitter (PostChannelMode (record { channel = 6; ergonomics = 1; movement = 0; modulis = 1 })) postMode
+    IsOnTheWire toTransmitter (GetChannelMode 6) getMode
+    × IsOnTheWire fromTransmitter
+    (PostChannelMode (record { channel = 6; ergonomics = 1; movement = 0; modulis = 1 })) postMode
 
 -- 2026-04: SET_SUN_AUTO, channel 3: sun auto on is 0, off is 1.
 abbrev pub sunOn : List ℕ
@@ -249,7 +251,9 @@ abbrev pub sunOff : List ℕ
 sunOff = 0x6C ∷ 0xF2 ∷ 0xFA ∷ 0xFF ∷ 0x00 ∷ 0x00 ∷ 0xFD ∷ 0xFF ∷ 0xFA ∷ 0xFC ∷ 0xFE ∷ 0x08 ∷ 0x47 ∷ []
 
 abbrev pub R04-sun : Type 0
-R04-sun = IsOnTheWire toTransmitter (SetSunAuto (record { channel = 3; off = 0 })) sunOn × IsOnTheWire toTransmitter (SetSunAuto (record { channel = 3; off = 1 })) sunOff
+R04-sun =
+    IsOnTheWire toTransmitter (SetSunAuto (record { channel = 3; off = 0 })) sunOn
+    × IsOnTheWire toTransmitter (SetSunAuto (record { channel = 3; off = 1 })) sunOff
 
 -- 2026-04: SET_DCT_LOCK, input 2, lock (1): thirteen bytes. With the LEN that 002 prints, 0Ch, they are no frame; twelve
 -- bytes are a frame, with one byte of DATA.

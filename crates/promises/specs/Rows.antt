@@ -125,13 +125,15 @@ readFormRows run b =
 -- ---- the transmitter's messages
 -- A bundle read: no message has its MSG; none of that MSG has so many bytes of DATA; none of that MSG and DATA is in
 -- range.
-abbrev pub receiveRows : List ℕ → List Row
-receiveRows b =
-    bundleRows b
-    ++ 18 when (¬ ((m : Message) × (messageNumber m ≡ message b)))
+abbrev pub typedRows : List ℕ → List Row
+typedRows b =
+    18 when (¬ ((m : Message) × (messageNumber m ≡ message b)))
     ∷ 16 when (¬ ((m : Message) × ((messageNumber m ≡ message b) × (length (contentOf m) ≡ dataCount b))))
     ∷ 15 when (¬ ((m : Message) × ((messageNumber m ≡ message b) × ((contentOf m ≡ dataOf b) × (inRange m .holds ≡ true)))))
     ∷ []
+
+abbrev pub receiveRows : List ℕ → List Row
+receiveRows b = bundleRows b ++ typedRows b
 
 -- A message to be written: rows 12 and 13 cannot apply.
 abbrev pub sendRows : (room place : ℕ) → Envelope → Message → List Row

@@ -45,13 +45,15 @@ module _ (b : List ℕ) where
   read-as-spelled f = ap (receivedBy b) (frame-is-read b f)
 
   module _ (e : Envelope) (m : Message) where
+    spelled-as-carried : Carries b e m → spelling ≡ Spelled.Message m
+    spelled-as-carried c =
+        ap₂ (λ (n : ℕ) (d : List ℕ). spelledBy n (fourOf d)) (sym (c .says-its-number)) (sym (c .says-its-data)) ∙ spells m
+
     pub carried-is-read : Carries b e m → receivedOf b ≡ Received.Message e m
     carried-is-read c =
-        let spelled : spelling ≡ Spelled.Message m = ap₂ (λ (n : ℕ) (d : List ℕ). spelledBy n (fourOf d)) (sym (c .says-its-number)) (sym (c .says-its-data))
-        ∙ spells m in
         let counted : frame.dataCount b ≡ length (dataOf m) = sym (content.length-data b) ∙ ap length (sym (c .says-its-data)) in
         read-as-spelled (c .is-a-frame)
-        ∙ ap (listed envelope (frame.dataCount b)) spelled
+        ∙ ap (listed envelope (frame.dataCount b)) (spelled-as-carried c)
         ∙ no-row-applies (checkTable (frame.dataCount b) m) (Received.Message envelope m) (counted, (inRange m .is-fact (c .in-range), tt))
         ∙ ap (λ (x : Envelope). Received.Message x m) (sym (c .says-its-envelope))
 
@@ -64,11 +66,12 @@ module _ (b : List ℕ) where
         let answer = sym (no-row-applies (checkTable (frame.dataCount b) n) (Received.Message envelope n) passed) ∙ read in
         let same : n ≡ m = cc in
         let as-m : spelling ≡ Spelled.Message m = spelled ∙ ap Spelled.Message same in
+        let counted = content.length-data b ∙ passed .0 ∙ ap (λ (x : Message). length (dataOf x)) same in
         record {
           is-a-frame = f;
           says-its-number = spelled-number (frame.message b) (frame.dataOf b) m as-m;
           says-its-data =
-              spelled-data (frame.message b) (frame.dataOf b) m as-m (content.length-data b ∙ passed .0 ∙ ap (λ (x : Message). length (dataOf x)) same);
+              spelled-data (frame.message b) (frame.dataOf b) m as-m counted;
           in-range = ap (λ (x : Message). inRange x .holds) (sym same) ∙ holds-by (inRange n) (passed .1 .0);
           says-its-envelope = cc;
         })
@@ -76,7 +79,8 @@ module _ (b : List ℕ) where
         (passed-or-answered IsRefused (checkTable (frame.dataCount b) n) (Received.Message envelope n)
         ((Refusal.WrongDataCount, refl), ((Refusal.FieldOutOfRange, refl), tt)))
 
-    from-spelling : IsFrame b → (s : Spelled) → spelling ≡ s → listed envelope (frame.dataCount b) s ≡ Received.Message e m → Carries b e m
+    from-spelling : IsFrame b → (s : Spelled) → spelling ≡ s
+        → listed envelope (frame.dataCount b) s ≡ Received.Message e m → Carries b e m
     from-spelling f (Spelled.Message n) spelled read = carried f n spelled read
     from-spelling f Spelled.Unlisted spelled read = absurd (no-message (Refusal.UnlistedMessage, refl) read)
 

@@ -78,7 +78,8 @@ returns-2 c =
           ∙ ap (inPlaceOfRoom Refusal.FieldOutOfRange) (w .write2 .ensures .0 ∙ ap₂ (writingOf 0 0) (header h) (content (h .before .before)))
           ∙ sym (refused-for-a-field (x .envelope) (x .message) (length buffer) (x .place) out),
       ap (λ (l : List ℕ). l ++ buffer)
-          (w .write2 .ensures .1 ∙ ap₂ (bufferWritten [] 0) (header h) (content (h .before .before)) ∙ nothing-stays-nothing (x .envelope) (x .message))
+          (w .write2 .ensures .1 ∙ ap₂ (bufferWritten [] 0) (header h) (content (h .before .before))
+          ∙ nothing-stays-nothing (x .envelope) (x .message))
           ∙ sym (no-byte-for-a-field (x .envelope) (x .message) buffer (x .place) out),
     )
 
