@@ -1,4 +1,6 @@
 // The bench: a console for one board, one register and one line. Everything that matters is in the libraries.
+#![tactic(auto)]
+
 mod bus;
 
 use board_room::{no_board, put_board};

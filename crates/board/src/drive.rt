@@ -4,14 +4,14 @@ ghost use Rattle.board.specs.Drive.{fresh_drive, moved_to, halted, at_pulse, blo
 
 use travel::Pulse;
 
-#[derive(Drop)]
+#[derive(Clone, Copy)]
 pub enum Motion {
     Still,
     // Running to a pulse; a target is held only while running.
     Running(Pulse),
 }
 
-#[derive(Drop)]
+#[derive(Clone, Copy)]
 pub struct Drive {
     pub position: Pulse,
     pub motion: Motion,

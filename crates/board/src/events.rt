@@ -7,14 +7,14 @@ use crate::whole::Node;
 use refusal::Refusal;
 use travel::Pulse;
 
-#[derive(Drop)]
+#[derive(Clone, Copy)]
 pub enum Verdict {
     Done,
     Refused(Refusal),
 }
 
 // The node after an event; a refused event has changed nothing.
-#[derive(Drop)]
+#[derive(Clone, Copy)]
 pub struct After {
     pub node: Node,
     pub verdict: Verdict,

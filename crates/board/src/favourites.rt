@@ -4,18 +4,18 @@ ghost use Rattle.board.specs.Favourites.{ip_at, with_ip, shared_out, shared_ip, 
 
 use travel::{IpIndex, Pulse, pulse_of_percent, share_of};
 
-#[derive(Drop)]
+#[derive(Clone, Copy)]
 pub enum Ip {
     Unset,
     At(Pulse),
 }
 
-#[derive(Drop)]
+#[derive(Clone, Copy)]
 pub struct Slot {
     pub ip: Ip,
 }
 
-#[derive(Drop)]
+#[derive(Clone, Copy)]
 pub struct Favourites {
     // IP 1 first.
     pub slots: [Slot; 16],

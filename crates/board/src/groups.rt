@@ -5,7 +5,7 @@ ghost use Rattle.board.specs.Groups.{no_groups, applied, in_table, is_entry_of};
 use frame::Address;
 
 // What happens to the table: an answer cannot hold it, so it holds this.
-#[derive(Drop)]
+#[derive(Clone, Copy)]
 pub enum Change {
     Keep,
     // The entry of this index, and its three bytes.

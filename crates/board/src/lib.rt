@@ -1,5 +1,7 @@
 // The awning board itself: its settings, motor, favourite positions, lock, label and groups, and what happens to them.
 // The bus is above it, in `node`.
+#![tactic(auto)]
+
 mod drive;
 mod events;
 mod favourites;

@@ -4,7 +4,7 @@ ghost use Rattle.board.specs.Lock.{no_lock, admits, locked, unlocked, saving, ov
 
 use frame::Address;
 
-#[derive(Drop)]
+#[derive(Clone, Copy)]
 pub struct Lock {
     // SOURCE of the lock in force.
     pub holder: Address,

@@ -4,7 +4,7 @@ ghost use Rattle.board.specs.Plate.{plate_in_range};
 
 use serial::is_origin;
 
-#[derive(Drop)]
+#[derive(Clone, Copy)]
 pub struct Plate {
     // The version: reference, letter and number.
     pub reference: u32,

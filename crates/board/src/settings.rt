@@ -6,7 +6,7 @@ use crate::plate::Plate;
 use frame::Address;
 use travel::Pulse;
 
-#[derive(Drop)]
+#[derive(Clone, Copy)]
 pub struct Settings {
     // The NodeID.
     pub id: Address,

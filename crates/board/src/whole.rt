@@ -9,7 +9,7 @@ use crate::lock::Lock;
 use crate::settings::Settings;
 
 // The fields are open, so that a state can be anything: every call checks it, by row 33.
-#[derive(Drop)]
+#[derive(Clone, Copy)]
 pub struct Node {
     pub settings: Settings,
     pub drive: Drive,

@@ -6,7 +6,7 @@ use frame::Address;
 use travel::Pulse;
 
 // The board after a command, its change of the group table, and the answer.
-#[derive(Drop)]
+#[derive(Clone, Copy)]
 pub struct Shown {
     pub node: Node,
     pub change: Change,

@@ -1,4 +1,6 @@
 // The board on the bench: its commands, and its rows.
+#![tactic(auto)]
+
 mod commands;
 mod state;
 

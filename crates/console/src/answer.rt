@@ -5,7 +5,7 @@ use crate::words::part;
 use refusal::Refusal;
 
 // A row by its place in the table of texts, with a number, or with so many bytes.
-#[derive(Drop)]
+#[derive(Clone, Copy)]
 pub struct Said {
     pub row: usize,
     pub number: u32,

@@ -5,7 +5,7 @@ use check::same;
 use std::num::wrapping_add_usize;
 
 // A command, by its place in the table, and a number for each word behind its name.
-#[derive(Drop)]
+#[derive(Clone, Copy)]
 pub struct Order {
     pub command: usize,
     pub numbers: [u32; 10],

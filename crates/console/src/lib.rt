@@ -1,5 +1,7 @@
 // The text side of a console: lines out of what is read, the command that a line is, the numbers of its words, and
 // rows of text.
+#![tactic(auto)]
+
 pub mod answer;
 pub mod command;
 mod lines;

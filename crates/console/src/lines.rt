@@ -5,7 +5,7 @@ use libc::STDIN_FILENO;
 
 // What is read of the input: the chunk has so many bytes, none where the input is over, and is used up to a place; so
 // many bytes of the line are held.
-#[derive(Drop)]
+#[derive(Clone, Copy)]
 pub struct Input {
     pub have: usize,
     pub next: usize,

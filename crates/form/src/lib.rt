@@ -1,4 +1,6 @@
 // Stored form 1 of the register, a motor at a time: checked and read from bytes, and laid in a lent buffer.
+#![tactic(auto)]
+
 mod bodies;
 mod bytes;
 mod contents;

@@ -10,7 +10,7 @@ use crate::places::{FIRST, body_place, entry_place, form_length};
 use motors::{Found, Motor, PLACES};
 use refusal::Refusal;
 
-#[derive(Drop)]
+#[derive(Clone, Copy)]
 pub enum Written {
     // The form is written; so many bytes.
     Bytes(usize),

@@ -8,7 +8,7 @@ pub(crate) const MOST_DATA: usize = 20;
 
 pub(crate) const LONGEST: usize = 31;
 
-#[derive(Drop)]
+#[derive(Clone, Copy)]
 pub struct Header {
     // MSG.
     pub message: u8,

@@ -1,4 +1,6 @@
 // SDN frames: the address, reading one bundle of wire bytes, and writing a frame into a lent buffer.
+#![tactic(auto)]
+
 mod address;
 mod header;
 mod reading;

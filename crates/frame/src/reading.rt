@@ -8,7 +8,7 @@ use crate::header::{BESIDE_DATA, Header, LONGEST};
 use crate::sum::sum;
 use refusal::Refusal;
 
-#[derive(Drop)]
+#[derive(Clone, Copy)]
 pub enum Reading {
     // A frame: its header, and how many bytes of DATA it has.
     Frame(Header, usize),

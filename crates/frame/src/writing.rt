@@ -7,7 +7,7 @@ use crate::header::{BESIDE_DATA, Header, MOST_DATA};
 use crate::sum::sum;
 use refusal::Refusal;
 
-#[derive(Drop)]
+#[derive(Clone, Copy)]
 pub enum Writing {
     // The frame is written; the place after it.
     Next(usize),

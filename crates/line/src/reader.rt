@@ -7,7 +7,7 @@ use crate::beyond::are_zeros;
 use frame::{Header, Reading, read};
 use refusal::Refusal;
 
-#[derive(Drop)]
+#[derive(Clone, Copy)]
 pub struct Reader {
     // The bundle's first bytes, at most 31, then zeros.
     pub kept: [u8; 31],
@@ -15,7 +15,7 @@ pub struct Reader {
     pub count: usize,
 }
 
-#[derive(Drop)]
+#[derive(Clone, Copy)]
 pub enum Answer {
     // No bundle has ended.
     Nothing,
@@ -25,7 +25,7 @@ pub enum Answer {
     Refused(Refusal),
 }
 
-#[derive(Drop)]
+#[derive(Clone, Copy)]
 pub struct Stepped {
     pub reader: Reader,
     pub answer: Answer,
@@ -33,7 +33,7 @@ pub struct Stepped {
     pub bundle: [u8; 31],
 }
 
-#[derive(Drop)]
+#[derive(Clone, Copy)]
 pub struct Ran {
     pub stepped: Stepped,
     // Up to here the runs are read.

@@ -18,5 +18,6 @@ one_of m [] e = absurd (false≢true e)
 one_of m (k ∷ l) e = ⊎_elim (λ f. as_first (eqb-true m k f)) (λ f. as_later (one_of m l f)) (either_way (eqb m k) (is_in m l) e)
 
 pub is_in_lem : (m : ℕ) (l : List ℕ) → IsOneOf m l → is_in m l ≡ true
+is_in_lem m [] x' = elim x' [ ]
 is_in_lem m (k ∷ l) (as_first e) = or_first (eqb m k) (is_in m l) (eq-eqb m k e)
 is_in_lem m (k ∷ l) (as_later i) = or_later (eqb m k) (is_in m l) (is_in_lem m l i)

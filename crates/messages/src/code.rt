@@ -2,7 +2,7 @@
 ghost use Rattle.std.specs.Prelude.{◌≡◌};
 ghost use Rattle.messages.specs.Code.{code_of};
 
-#[derive(Drop)]
+#[derive(Clone, Copy)]
 pub enum Code {
     // 10h.
     UnknownMessage,

@@ -14,7 +14,7 @@ use frame::{data_byte, word};
 use travel::{IpIndex, Percent, Pulse, percent_of_pulse, pulse_of_percent};
 
 // What SET_MOTOR_IP is to do.
-#[derive(Drop)]
+#[derive(Clone, Copy)]
 pub enum Order {
     Delete(IpIndex),
     // At the current pulse.

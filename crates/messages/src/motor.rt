@@ -16,7 +16,7 @@ use frame::{data_byte, word};
 use travel::{IpIndex, Percent, Pulse, percent_of_pulse, pulse_of_percent};
 
 // Where MOVETO is to go.
-#[derive(Drop)]
+#[derive(Clone, Copy)]
 pub enum Aim {
     Down,
     Up,

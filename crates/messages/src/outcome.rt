@@ -9,7 +9,7 @@ use crate::code::Code;
 use board::{Change, Node};
 
 // What is to be said to whoever asks for an answer.
-#[derive(Drop)]
+#[derive(Clone, Copy)]
 pub enum Say {
     // A SET or CTRL was carried out.
     Done,
@@ -18,7 +18,7 @@ pub enum Say {
     Refuse(Code),
 }
 
-#[derive(Drop)]
+#[derive(Clone, Copy)]
 pub struct Outcome {
     // The node afterwards.
     pub node: Node,

@@ -2,7 +2,7 @@
 use crate::motor::Motor;
 use refusal::Refusal;
 
-#[derive(Drop)]
+#[derive(Clone, Copy)]
 pub enum Answer {
     // Done; so many motors are held now.
     Count(usize),
@@ -12,7 +12,7 @@ pub enum Answer {
 // The places of a register.
 pub const PLACES: usize = 256;
 
-#[derive(Drop)]
+#[derive(Clone, Copy)]
 pub struct Next {
     pub motors: [Motor; PLACES],
     pub answer: Answer,

@@ -9,7 +9,7 @@ use crate::report::Report;
 use refusal::Refusal;
 
 // The records from one place to another each move by one, up or down, and a motor takes the place that comes free.
-#[derive(Drop)]
+#[derive(Clone, Copy)]
 pub struct Edit {
     pub up: bool,
     pub from: usize,

@@ -6,7 +6,7 @@ use crate::answer::PLACES;
 use crate::motor::{Motor, key, rest};
 use crate::passing::Passing;
 
-#[derive(Drop)]
+#[derive(Clone, Copy)]
 pub enum Found {
     // Row 19: the run is no register.
     Broken,

@@ -1,4 +1,6 @@
 // The register of motors, a record at a time: what a frame reports, what one pass over the places finds, and what a call does to them.
+#![tactic(auto)]
+
 mod answer;
 mod edit;
 mod found;

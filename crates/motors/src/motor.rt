@@ -7,7 +7,7 @@ use frame::Address;
 // Laid out as C does, from wide to narrow and without padding, so that every byte that a host lends is one of these
 // numbers. The first two load as one number, and so do the others.
 #[repr(C)]
-#[derive(Drop)]
+#[derive(Clone, Copy)]
 pub struct Motor {
     // NodeID.
     pub node: u32,

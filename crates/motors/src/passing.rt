@@ -4,7 +4,7 @@ ghost use Rattle.motors.specs.Passing.{begun, past, next_by};
 
 use crate::motor::{Motor, key, right_beside_line};
 
-#[derive(Drop)]
+#[derive(Clone, Copy)]
 pub struct Passing {
     // The key of the record passed last, which the one before it has to be below; 0 once a record is not right.
     pub next: u64,

@@ -7,7 +7,7 @@ use crate::motor::{Motor, is_line, is_node, is_reading, unread};
 use frame::{Header, Reading};
 use refusal::Refusal;
 
-#[derive(Drop)]
+#[derive(Clone, Copy)]
 pub enum Report {
     // A motor as the frame shows it, with its reading if the frame has one.
     Seen(Motor),

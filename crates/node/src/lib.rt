@@ -1,4 +1,6 @@
 // The awning board on the bus: which frames are meant for it, the turn that a bundle leads to, and the reply.
+#![tactic(auto)]
+
 mod frames;
 mod meant;
 mod reply;

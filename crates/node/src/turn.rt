@@ -5,7 +5,7 @@ ghost use Rattle.node.specs.Turn.{no_reply, silent, replied, refused_by};
 use board::{Change, Node};
 use refusal::Refusal;
 
-#[derive(Drop)]
+#[derive(Clone, Copy)]
 pub enum Answer {
     Silent,
     Replied,
@@ -13,13 +13,13 @@ pub enum Answer {
 }
 
 // The reply's wire bytes, then zeros.
-#[derive(Drop)]
+#[derive(Clone, Copy)]
 pub struct Reply {
     pub count: usize,
     pub bytes: [u8; 31],
 }
 
-#[derive(Drop)]
+#[derive(Clone, Copy)]
 pub struct Turn {
     pub node: Node,
     pub change: Change,

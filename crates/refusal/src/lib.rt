@@ -1,8 +1,10 @@
 // The numbers given back: one name for each row of document 01's table, in the table's order.
+#![tactic(auto)]
+
 ghost use Rattle.std.specs.Prelude.{◌≡◌};
 ghost use Rattle.refusal.specs.Number.{number_of};
 
-#[derive(Drop)]
+#[derive(Clone, Copy)]
 pub enum Refusal {
     // 1: too few bytes for a frame, 10 or less.
     TooShort,

@@ -1,4 +1,6 @@
 // The register of motors as a host holds it: a lent run of motor records with a count. Each function is thin and works where the records stand.
+#![tactic(auto)]
+
 mod by_value;
 mod forms;
 mod places;

@@ -1,4 +1,6 @@
 // The register's commands, and its rows.
+#![tactic(auto)]
+
 ghost use Rattle.std.specs.Prelude.{◌≤◌};
 
 use console::{
@@ -9,7 +11,7 @@ use form::Written;
 use motors::{Answer, Motor, Next, PLACES};
 
 // The register after a command, and the answer.
-#[derive(Drop)]
+#[derive(Clone, Copy)]
 pub struct Kept {
     pub motors: [Motor; PLACES],
     pub count: usize,

@@ -6,14 +6,14 @@ ghost use Rattle.rts.specs.Fields.{fit, line_as, position, step, mode, counts, f
 use crate::table::Line;
 
 // 80h. Order: 1 up or on, 2 down or off, 3 stop, 4 favourite.
-#[derive(Drop)]
+#[derive(Clone, Copy)]
 pub struct Position {
     pub channel: u8,
     pub order: u8,
 }
 
 // 81h and 82h. Direction: 0 plus, 1 minus.
-#[derive(Drop)]
+#[derive(Clone, Copy)]
 pub struct Step {
     pub channel: u8,
     pub direction: u8,
@@ -21,7 +21,7 @@ pub struct Step {
 }
 
 // 90h and B0h. Ergonomics: 0 CE, 1 US; movement: 0 rolling, 1 tilting; modulis: 0 normal, 1 Modulis.
-#[derive(Drop)]
+#[derive(Clone, Copy)]
 pub struct Mode {
     pub channel: u8,
     pub ergonomics: u8,
@@ -30,7 +30,7 @@ pub struct Mode {
 }
 
 // 91h and B1h. How many RTS frames, in US mode and in CE mode.
-#[derive(Drop)]
+#[derive(Clone, Copy)]
 pub struct Counts {
     pub channel: u8,
     pub us: u8,
@@ -38,28 +38,28 @@ pub struct Counts {
 }
 
 // 92h and B2h. How many RTS frames.
-#[derive(Drop)]
+#[derive(Clone, Copy)]
 pub struct Frames {
     pub channel: u8,
     pub count: u8,
 }
 
 // 93h. Off: 0 sun auto on, 1 off.
-#[derive(Drop)]
+#[derive(Clone, Copy)]
 pub struct Sun {
     pub channel: u8,
     pub off: u8,
 }
 
 // 94h. Input: 0 all, 1 to 5 that one; lock: 0 unlock, 1 lock.
-#[derive(Drop)]
+#[derive(Clone, Copy)]
 pub struct Contact {
     pub input: u8,
     pub lock: u8,
 }
 
 // The range of a field.
-#[derive(Drop)]
+#[derive(Clone, Copy)]
 pub(crate) struct Range {
     pub low: u8,
     pub high: u8,

@@ -5,7 +5,7 @@ ghost use Rattle.rts.specs.Envelope.{envelope_of, headed};
 use frame::{Address, Header};
 
 // The header without MSG: the transmitter's type is 5, and who sends what to whom is the caller's to say.
-#[derive(Drop)]
+#[derive(Clone, Copy)]
 pub struct Envelope {
     // The ACK bit: an answer is asked for.
     pub ack: bool,

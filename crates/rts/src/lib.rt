@@ -1,5 +1,7 @@
 // The RTS transmitter's messages (002) as typed messages: what each has in DATA and in which range, read from a bundle
 // and written as a frame.
+#![tactic(auto)]
+
 mod data;
 mod envelope;
 mod message;

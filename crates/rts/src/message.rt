@@ -7,7 +7,7 @@ ghost use Rattle.rts.specs.Table.{number_of, data_of};
 use crate::data::{Contact, Counts, Frames, Mode, Position, Step, Sun};
 use crate::table::{Entry, entry_of};
 
-#[derive(Drop)]
+#[derive(Clone, Copy)]
 pub enum Message {
     // 80h.
     CtrlPosition(Position),
@@ -50,7 +50,7 @@ pub enum Message {
 }
 
 // The message that a number and its fields spell.
-#[derive(Drop)]
+#[derive(Clone, Copy)]
 pub enum Spelled {
     Message(Message),
     Unlisted,

@@ -10,7 +10,7 @@ use crate::table::{Entry, entry_of};
 use frame::{Header, Reading, data_byte};
 use refusal::Refusal;
 
-#[derive(Drop)]
+#[derive(Clone, Copy)]
 pub enum Received {
     Message(Envelope, Message),
     Refused(Refusal),

@@ -10,7 +10,7 @@ use crate::data::{
 use crate::message::Message;
 
 // A message on the wire.
-#[derive(Drop)]
+#[derive(Clone, Copy)]
 pub(crate) struct Line {
     // MSG.
     pub(crate) number: u8,
@@ -24,7 +24,7 @@ pub(crate) struct Line {
 
 // What the list has under a number: how many bytes DATA has, whether those given are in range, and the message that
 // they make.
-#[derive(Drop)]
+#[derive(Clone, Copy)]
 pub(crate) enum Entry {
     Listed(usize, bool, Message),
     Unlisted,

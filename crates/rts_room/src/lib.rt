@@ -1,4 +1,6 @@
 // The commands of the transmitter's messages: a bundle read as one, and one written.
+#![tactic(auto)]
+
 use console::{
     Order, Said, answer, command, part, plainly, put_row, put_said, put_text, refused, with_bytes,
 };

@@ -1,1 +1,2 @@
 // Ordered runs, over any record with an order and at any capacity: definitions and laws. There is no code here.
+#![tactic(auto)]

@@ -1,4 +1,6 @@
 // A motor's serial number: its NodeID in six capital hex digits, then its origin (02, 2026-01).
+#![tactic(auto)]
+
 mod origin;
 mod words;
 

@@ -7,7 +7,7 @@ ghost use Rattle.serial.specs.Words.{no_serial, is_none, serial_before, serial_s
 // Three words of four characters each, the first character high, so that the order of the words is that of the
 // characters. Zeros: none.
 #[repr(C)]
-#[derive(Drop)]
+#[derive(Clone, Copy)]
 pub struct Serial {
     pub first: u32,
     pub second: u32,

@@ -1,18 +1,20 @@
 // Pulses, percents and IP numbers, each counted apart, and the conversions between them (01, Position).
+#![tactic(auto)]
+
 ghost use Rattle.std.specs.Prelude.{◌≡◌, ◌*◌, ◌<◌, ◌≤◌};
 ghost use Rattle.travel.specs.Nearest.{nearest, IsNearestOfSpan};
 ghost use Rattle.travel.specs.Position.{percent_of_pulse, pulse_of_percent};
 ghost use Rattle.travel.specs.Share.{share_of};
 
 // Pulse 0 is the up limit, the travel the down limit.
-#[derive(Drop)]
+#[derive(Clone, Copy)]
 pub struct Pulse(pub u16);
 
-#[derive(Drop)]
+#[derive(Clone, Copy)]
 pub struct Percent(pub u8);
 
 // IPs are numbered from 1.
-#[derive(Drop)]
+#[derive(Clone, Copy)]
 pub struct IpIndex(pub u8);
 
 // 100 × pulse ÷ travel to the nearest whole, halves up; from the travel on, 100.

@@ -1,10 +1,12 @@
 // The line reader's commands and the writer's, and lines that are no command.
+#![tactic(auto)]
+
 use console::{Order, Said, answer, command, plainly, refused, with_bytes};
 use frame::{Address, Header, Writing};
 use line::{Answer, Reader, Stepped};
 
 // The reader after a command, and the answer.
-#[derive(Drop)]
+#[derive(Clone, Copy)]
 pub struct Heard {
     pub reader: Reader,
     pub said: Said,
