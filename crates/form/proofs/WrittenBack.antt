@@ -119,7 +119,7 @@ module _ (s : Shape) (Fits : Motor → Type 0) (f : Faithful s Fits) (b : List �
   entry_right_lem i h = right_at (entry_right s count b) count i a.contents_right_lem h
 
   body_right_lem : (i : ℕ) → i < count → body_right s count b i ≡ true
-  body_right_lem i h = right_at (body_right s count b) count i a.bodies_right h
+  body_right_lem i h = right_at (body_right s count b) count i a.bodies_right_lem h
 
   -- ---- right and in order
   pub motors_right : All Right motors

@@ -155,6 +155,7 @@ AllBelow bound [] = Unit {0}
 AllBelow bound (k ∷ l) = (k < bound) × AllBelow bound l
 
 one_below : (bound m : ℕ) (l : List ℕ) → AllBelow bound l → IsOneOf m l → m < bound
+one_below bound m [] a x = elim x [ ]
 one_below bound m (k ∷ l) a (as_first e) = subst (λ (x : ℕ). x < bound) (sym e) a.0
 one_below bound m (k ∷ l) a (as_later i) = one_below bound m l a.1 i
 

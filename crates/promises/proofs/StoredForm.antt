@@ -57,7 +57,7 @@ module _ (run : List Motor) (b : List ℕ) where
     stored_at : (i : ℕ) → i < n → HoldsStored (at (read_of run b).motors i) b n i
     stored_at i h =
         let k : i < count_in b = omega (arith, h, accepted.number) in
-        rw (motor_at_lem i k, accepted.number) (motor_is_stored b (count_in b) i ((bodies_exactly_when b (count_in b)).1 accepted.bodies_right i k))
+        rw (motor_at_lem i k, accepted.number) (motor_is_stored b (count_in b) i ((bodies_exactly_when b (count_in b)).1 accepted.bodies_right_lem i k))
 
     restored : Restored b n (read_of run b).motors
     restored =
