@@ -62,6 +62,7 @@ blocking : (cause : ℕ) → IsOneOf cause (0x20 ∷ 0x21 ∷ 0x22 ∷ []) → b
 blocking cause (as_first e) = rw e
 blocking cause (as_later (as_first e)) = rw e
 blocking cause (as_later (as_later (as_first e))) = rw e
+blocking cause (as_later (as_later (as_later i))) = elim i [ ]
 
 module _ (s : Settings) where
   pub set_up_done : SettingsInRange s → set_up s ≡ done (fresh_node s)

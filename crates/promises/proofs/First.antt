@@ -137,6 +137,7 @@ one_number rows a b (none_applies e) (none_applies f) = e ∙ sym f
 
 -- One of a list stands at a place of it.
 pub stands_at : (x : ℕ) (l : List ℕ) → IsOneOf x l → (place : ℕ) × ((place < length l) × (get_or l place 0 ≡ x))
+stands_at x [] i = elim i [ ]
 stands_at x (k ∷ l) (as_first e) = (0, (omega arith, sym e))
 stands_at x (k ∷ l) (as_later i) = let (place, (h, e)) = stands_at x l i in (suc place, (suc-le-suc h, e))
 

@@ -16,6 +16,9 @@ use mir.Syntax.{
   ty_unit,
   ty_struct,
   ty_enum,
+  ty_param,
+  ty_const,
+  ty_array_p,
   ty_named,
   Tys,
   tnil,
@@ -48,7 +51,10 @@ abbrev mutual
   is_lent ty_unit = false
   is_lent (ty_struct name fields) = has_lent fields
   is_lent (ty_enum name variants) = some_has_lent variants
-  is_lent (ty_named head) = false
+  is_lent (ty_param number) = true
+  is_lent (ty_const number) = false
+  is_lent (ty_array_p ty number) = is_lent ty
+  is_lent (ty_named head tys) = true
 
   pub has_lent : Tys → Bool
   has_lent tnil = false
@@ -87,7 +93,10 @@ fields_of (ty_ref lifetime mutability ty) = tnil
 fields_of (ty_array ty count) = tnil
 fields_of ty_unit = tnil
 fields_of (ty_enum name variants) = tnil
-fields_of (ty_named head) = tnil
+fields_of (ty_param number) = tnil
+fields_of (ty_const number) = tnil
+fields_of (ty_array_p ty number) = tnil
+fields_of (ty_named head tys) = tnil
 
 -- ---- the contracts
 -- Of any arguments, with nothing required of them and no memory lent to be changed, each result that the contract
