@@ -3,22 +3,21 @@
 use Prim.Native.Nat.{ℕ}
 use mathlib.Core.Path.{◌≡◌, refl, ◌∙◌, sym, ap, ap₂}
 use mathlib.Core.Logic.{◌↔◌, ⊎_elim}
-use mathlib.Core.Bool.{true}
 use mathlib.Core.List.{List}
 use lib.ListN.{length}
 use Rattle.meaning.specs.Cases.{zero_is_one}
 use Rattle.meaning.specs.Tests.{holds_by}
-use Rattle.meaning.specs.Tables.{Passed, no_row_applies, passed_or_answered}
+use Rattle.meaning.specs.Tables.{no_row_applies, passed_or_answered}
 use Rattle.refusal.specs.declared.Refusal.{Refusal}
 use Rattle.frame.specs.Layout as frame
-use Rattle.frame.specs.Reading.{IsFrame, reading_of}
+use Rattle.frame.specs.Reading.{IsFrame}
 use Rattle.frame.proofs.Content as content
 use Rattle.frame.proofs.Frames.{frame_is_read, frame_or_refused}
 use Rattle.rts.specs.Envelope.{envelope_of}
 use Rattle.rts.specs.Spelling.{spelled_by}
 use Rattle.rts.specs.Reading.{check_table, checked_by, listed, received_by, received_of, Carries}
 use Rattle.rts.specs.Fields.{four_of}
-use Rattle.rts.specs.Table.{number_of, data_of, in_range}
+use Rattle.rts.specs.Table.{data_of, in_range}
 use Rattle.rts.specs.declared.envelope.Envelope.{Envelope}
 use Rattle.rts.specs.declared.message.Message.{Message}
 use Rattle.rts.specs.declared.message.Spelled.{Spelled}

@@ -17,6 +17,7 @@ pub enum Received {
 }
 
 // Rows 1 to 6, then 18, 16 and 15, in this order.
+#[tactic(auto, unfolding(crate::specs::Reading::received_of))]
 pub fn read(bundle: &[u8]) -> Received
     ensures { result ≡ received_of bundle.now }
 {

@@ -59,6 +59,7 @@ impl Message {
 }
 
 // The fields are taken from the bytes in their order.
+#[tactic(auto, unfolding(crate::specs::Spelling::spelled_by))]
 pub(crate) fn entry_of(number: u8, fields: [u8; 4]) -> Entry
     ensures { result ≡ entry_of (spelled_by number fields) }
 {

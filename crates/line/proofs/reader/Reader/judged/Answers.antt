@@ -1,0 +1,23 @@
+-- An empty bundle gives nothing, one of over 31 bytes is too long, and any other is read.
+-- Assumes nothing.
+use Rattle.std.proofs.Common.{sym, ap, arith}
+use Rattle.line.specs.Reader.{fresh}
+use Rattle.line.specs.declared.reader.Stepped.{Stepped}
+use Rattle.line.specs.declared.reader.Answer.{Answer}
+use Rattle.line.proofs.Steps.{ended_empty, ended_too_long, ended_as}
+use Rattle.line.proofs.reader.Reader.judged.Goals as goal
+
+abbrev answer : Stepped → Answer
+answer s = s.answer
+
+pub returns-then-count-eq0 : goal.returns-then-count-eq0
+returns-then-count-eq0 c = ap answer (sym (ended_empty c.args.self fresh c.if-count-eq0.true))
+
+pub returns-then-count-gt31 : goal.returns-then-count-gt31
+returns-then-count-gt31 c = ap answer (sym (ended_too_long c.args.self fresh c.if-count-eq0.false (omega arith)))
+
+pub returns-in-Frame : goal.returns-in-Frame
+returns-in-Frame c = ap answer (ended_as c.args.self fresh c.if-count-eq0.false (omega arith) (sym c.in-Frame.ensures))
+
+pub returns-in-Refused : goal.returns-in-Refused
+returns-in-Refused c = ap answer (ended_as c.args.self fresh c.if-count-eq0.false (omega arith) (sym c.in-Refused.ensures))
