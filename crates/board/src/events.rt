@@ -21,6 +21,7 @@ pub struct After {
 }
 
 // A fresh node. One with refused settings is refused by every later call.
+#[tactic(auto, unfolding(crate::specs::Events::set_up))]
 pub fn set_up(settings: Settings) -> After
     ensures { result ≡ set_up settings }
 {
@@ -32,6 +33,7 @@ pub fn set_up(settings: Settings) -> After
 }
 
 // The motor has come to a pulse.
+#[tactic(auto, unfolding(crate::specs::Events::after_pulse))]
 pub fn at_pulse(node: Node, pulse: Pulse) -> After
     ensures { result ≡ after_pulse node pulse }
 {
@@ -45,6 +47,7 @@ pub fn at_pulse(node: Node, pulse: Pulse) -> After
 }
 
 // The motor has been blocked, by 20h, 21h or 22h.
+#[tactic(auto, unfolding(crate::specs::Events::after_blocked))]
 pub fn blocked(node: Node, cause: u8) -> After
     ensures { result ≡ after_blocked node cause }
 {
@@ -57,6 +60,7 @@ pub fn blocked(node: Node, cause: u8) -> After
     done(node.with_drive(node.drive.blocked_by(cause)))
 }
 
+#[tactic(auto, unfolding(crate::specs::Events::after_cleared))]
 pub fn cleared(node: Node) -> After
     ensures { result ≡ after_cleared node }
 {
@@ -66,6 +70,7 @@ pub fn cleared(node: Node) -> After
     done(node.with_drive(node.drive.unblocked()))
 }
 
+#[tactic(auto, unfolding(crate::specs::Events::after_power_up))]
 pub fn power_up(node: Node) -> After
     ensures { result ≡ after_power_up node }
 {
