@@ -1,7 +1,6 @@
 // Which command a line is, and the numbers of its words.
 use crate::lines::first;
 use crate::words::{MALFORMED, part, parts, value_of};
-use check::same;
 use std::num::wrapping_add_usize;
 
 // A command, by its place in the table, and a number for each word behind its name.
@@ -141,7 +140,7 @@ fn row_named(table: &[u8], name: &[u8], words: usize) -> usize {
     for number in 0..BAD {
         let row = part(table, b';', number);
         if wrapping_add_usize(part(row, b' ', 1).len(), 1) == words {
-            if same(part(row, b' ', 0), name) {
+            if part(row, b' ', 0) == name {
                 return number;
             }
         }

@@ -1,7 +1,5 @@
 // Lines out of what is read, a chunk at a time.
-ghost use Rattle.std.specs.Prelude.{◌≤◌};
-
-use libc::STDIN_FILENO;
+use std::io::Read;
 
 // What is read of the input: the chunk has so many bytes, none where the input is over, and is used up to a place; so
 // many bytes of the line are held.
@@ -25,9 +23,14 @@ impl Input {
     }
 
     // The next line, or as much of it as the chunk has; a chunk that is used up is read anew.
-    pub fn more(mut self, chunk: &mut [u8; 65536], line: &mut [u8; 8194]) -> Input {
+    pub fn more(
+        mut self,
+        reader: &mut impl Read,
+        chunk: &mut [u8; 65536],
+        line: &mut [u8; 8194],
+    ) -> Input {
         if self.next >= self.have {
-            self.have = read_some(chunk);
+            self.have = read_some(reader, chunk);
             self.next = 0;
         }
         if self.ended {
@@ -49,9 +52,9 @@ impl Input {
     }
 }
 
-fn read_some(chunk: &mut [u8; 65536]) -> usize {
-    let got = libc::read(STDIN_FILENO, chunk);
-    io::count(got, chunk)
+// One read; a failed one ends the input, as one of no bytes does.
+fn read_some(reader: &mut impl Read, chunk: &mut [u8; 65536]) -> usize {
+    reader.read(chunk).unwrap_or(0)
 }
 
 // The chunk's bytes up to the next line feed, behind what is held of the line.

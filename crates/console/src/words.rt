@@ -2,7 +2,6 @@
 // of any number and `-` for none, and `t`, `s`, `m` and `l` are DEC up to 1, 255, 65,535 and 4,294,967,295.
 ghost use Rattle.std.specs.Prelude.{◌≤◌, length};
 
-use check::same;
 use std::num::{wrapping_add_usize, wrapping_sub_u8};
 
 // The value of no word.
@@ -63,7 +62,7 @@ pub fn parts(line: &[u8]) -> usize {
 pub fn value_of(kind: u8, word: &[u8], bytes: &mut [u8; 4096]) -> u64 {
     let count = digit_of(kind);
     if count == 0 {
-        if same(word, b"-") {
+        if word == b"-".as_slice() {
             return 0;
         }
     }

@@ -50,3 +50,8 @@ module _ (s : Shape) (count : ℕ) where
           → first ≡ over_from from entry buffer → second ≡ over_from place body first → second ≡ motor_over s count at m buffer
       unfolding motor_over
       motor_put e h place from p q entry body first second f g a b = b ∙ rw (a, f, g, p, q) (sym (rw (lt-ltb at count h, e)))
+
+-- What the code cites: room found, and what is then laid or not.
+pub ruleset head_laws = (few_that_fit, room_that_fits, no_head, head_put)
+
+pub ruleset motor_laws = (few_that_fit, room_that_fits, no_place, no_motor_lem, motor_put)

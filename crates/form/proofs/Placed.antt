@@ -34,3 +34,6 @@ module _ (s : Shape) (count : ℕ) (b : List ℕ) (at : ℕ) where
   pub at_its_place : count ≤ places → length b ≡ form_length s count → at < count → motor_in s count b at ≡ place_of s count b at
   unfolding place_of
   at_its_place few long h = rw (le-leb count places few, eq-eqb (length b) (form_length s count) long, lt-ltb at count h)
+
+-- What the code cites where no motor stands at the place.
+pub ruleset zeros_laws = (too_many, of_another_length, behind_the_last)

@@ -8,6 +8,7 @@ use crate::contents::entry;
 use crate::places::{BODY, body_place};
 use motors::Motor;
 
+#[tactic(auto, unfolding(crate::specs::FormOne::reading_right))]
 fn body_right(bytes: &[u8], count: usize, at: usize) -> bool
     requires { HasPlace bytes.now count at }
     ensures { result ≡ body_right form_one count bytes.now at }
@@ -46,6 +47,7 @@ pub(crate) fn bodies_right(bytes: &[u8], count: usize) -> bool
 }
 
 // The motor of an entry and a body.
+#[tactic(auto, unfolding(crate::specs::FormOne::motor_of_reading))]
 pub(crate) fn motor(bytes: &[u8], count: usize, at: usize) -> Motor
     requires { HasPlace bytes.now count at }
     ensures { result ≡ motor_in form_one count bytes.now at }

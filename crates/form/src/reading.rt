@@ -10,6 +10,7 @@ use motors::{Answer, Motor, PLACES};
 use refusal::Refusal;
 
 // Rows 19 and 40 to 44, in their order, or the number of motors.
+#[tactic(auto, unfolding(crate::specs::Reading::checked))]
 pub fn check(places: usize, bytes: &[u8]) -> Answer
     ensures { result ≡ check_of places bytes.now }
 {
@@ -39,6 +40,7 @@ pub fn check(places: usize, bytes: &[u8]) -> Answer
 }
 
 // What stands at a place when a form of so many motors is read. Bytes of another length hold no motor.
+#[tactic(auto, using(crate::proofs::Placed::zeros_laws))]
 pub fn place(bytes: &[u8], count: usize, at: usize) -> Motor
     ensures { result ≡ place_in count bytes.now at }
 {

@@ -28,6 +28,7 @@ pub fn room(found: Found, count: usize, room: usize) -> Written
     }
 }
 
+#[tactic(auto, unfolding(crate::specs::Writing::room_for))]
 fn room_for(count: usize, room: usize) -> Written
     ensures { result ≡ room_for count room }
 {
@@ -60,6 +61,7 @@ fn fits(count: usize, room: usize) -> bool
 }
 
 // The first byte and the count, if the buffer has room for the form.
+#[tactic(auto, using(crate::proofs::Fitting::head_laws))]
 pub fn lay_head(buffer: &mut [u8], count: usize)
     ensures { buffer.new ≡ head_laid count buffer.old }
 {
@@ -71,6 +73,7 @@ pub fn lay_head(buffer: &mut [u8], count: usize)
 }
 
 // The entry and the body of the motor at a place of a form, if the form has the place and the buffer room for it.
+#[tactic(auto, using(crate::proofs::Fitting::motor_laws))]
 pub fn lay_motor(buffer: &mut [u8], count: usize, at: usize, motor: Motor)
     ensures { buffer.new ≡ motor_laid count at motor buffer.old }
 {

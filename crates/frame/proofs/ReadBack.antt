@@ -11,7 +11,7 @@ use lib.ListN.{length, length-append, length-map}
 use lib.Seq.{take_at}
 use Rattle.meaning.specs.Bytes.{Bytes, tail_bytes}
 use Rattle.frame.specs.Address.{address_of}
-use Rattle.frame.specs.Layout.{inverted, sum_of, message, header_of, data_of}
+use Rattle.frame.specs.Layout.{inverted, sum_of, header_of, data_of}
 use Rattle.frame.specs.Reading.{IsFrame}
 use Rattle.frame.specs.Writing.{raw_header, ack_length, frame_of, Writable}
 use Rattle.frame.specs.declared.address.Address.{Address}

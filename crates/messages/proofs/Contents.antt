@@ -70,7 +70,7 @@ use Rattle.messages.specs.Identity.{
 }
 use Rattle.messages.specs.Table.{outcome_of}
 use Rattle.messages.proofs.FirstBytes.{so_many, bytes_of_bytes}
-use Rattle.messages.proofs.Messages.{EachRow, every_message, or_refused}
+use Rattle.messages.proofs.Messages.{every_message, or_refused}
 
 -- ---- what is done alone, and what is told
 -- What holds of every outcome that is carried out, of every refusal and of what each GET tells holds of whatever a message comes to.

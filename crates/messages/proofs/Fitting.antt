@@ -3,7 +3,6 @@
 use Prim.Native.Nat.{ℕ, ◌<◌}
 use native.Mathlib.Omega.{arith}
 use mathlib.Core.Path.{◌≡◌}
-use mathlib.Core.Bool.{true, false}
 use mathlib.Core.List.{List}
 use lib.Dec.{eqb}
 use lib.ListN.{length}
@@ -46,7 +45,7 @@ use Rattle.messages.specs.Addresses.{address_row, group_codes, group_data, group
 use Rattle.messages.specs.Identity.{label_in, label_row, set_label_codes, set_label_row, version_row, serial_row}
 use Rattle.messages.specs.Table.{outcome_of}
 use Rattle.messages.proofs.FirstBytes.{so_many}
-use Rattle.messages.proofs.Messages.{EachRow, every_message, or_refused}
+use Rattle.messages.proofs.Messages.{every_message, or_refused}
 
 -- What is left fits.
 pub record Fitting (o : Outcome) : Type 0 where

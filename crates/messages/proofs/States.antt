@@ -3,7 +3,7 @@
 use Prim.Native.Nat.{ℕ, ◌≤◌}
 use native.Mathlib.Omega.{arith}
 use mathlib.Core.Path.{◌≡◌, refl}
-use mathlib.Core.Bool.{true, false}
+use mathlib.Core.Bool.{true}
 use mathlib.Core.List.{List}
 use borrow.Author.Tests.{le-leb, leb-true}
 use lib.Dec.{eqb}
@@ -15,11 +15,10 @@ use Rattle.travel.specs.Position.{pulse_of_percent, pulse_at_most_travel}
 use Rattle.travel.specs.declared.IpIndex.{IpIndex}
 use Rattle.travel.specs.declared.Pulse.{Pulse}
 use Rattle.board.specs.Drive.{halted, moved_to, drive_within}
-use Rattle.board.specs.Favourites.{pulse_of, with_ip, shared_out, ip_within, ips_within}
+use Rattle.board.specs.Favourites.{pulse_of, with_ip, ip_within, ips_within}
 use Rattle.board.specs.Groups.{Groups}
-use Rattle.board.specs.Node.{sound, with_drive, with_favourites, with_lock, with_label}
+use Rattle.board.specs.Node.{sound, with_drive, with_lock, with_label}
 use Rattle.board.specs.declared.drive.Drive.{Drive}
-use Rattle.board.specs.declared.favourites.Favourites.{Favourites}
 use Rattle.board.specs.declared.favourites.Ip.{Ip}
 use Rattle.board.specs.declared.favourites.Ip.TheVariants.{Unset, At}
 use Rattle.board.specs.declared.groups.Change.{Change}
@@ -35,14 +34,14 @@ use Rattle.messages.specs.declared.motor.Aim.{Aim}
 use Rattle.messages.specs.declared.motor.Aim.TheVariants.{Down, Up, ToIp, ToPercent, Nowhere}
 use Rattle.messages.specs.declared.outcome.Outcome.{Outcome}
 use Rattle.messages.specs.Fields.{byte_at}
-use Rattle.messages.specs.Outcome.{acts, posts, refuses, refusals, refusing}
+use Rattle.messages.specs.Outcome.{acts, posts, refusals, refusing}
 use Rattle.messages.specs.Motor.{stop_codes, stopped, stop_row, aim_in, target_of, move_codes, moved, move_row, position_row, status_row}
 use Rattle.messages.specs.Ips.{order_in, ordered, set_ip_codes, keeping_ips, set_ip_row, ip_codes, ip_data, ip_row}
 use Rattle.messages.specs.Locking.{set_lock_codes, lock_by, locked_by, set_lock_row, lock_row}
 use Rattle.messages.specs.Addresses.{address_row, group_codes, group_data, group_row, set_group_row}
 use Rattle.messages.specs.Identity.{label_in, label_row, set_label_codes, set_label_row, version_row, serial_row}
 use Rattle.messages.specs.Table.{outcome_of}
-use Rattle.messages.proofs.Messages.{EachRow, every_message, or_refused}
+use Rattle.messages.proofs.Messages.{every_message, or_refused}
 
 -- An entry that is put is one of the sixteen.
 abbrev pub InTable : Change → Type 0

@@ -10,6 +10,7 @@ use board::{Change, Node};
 use frame::data_byte;
 
 // 40h, answered 60h: the header says it all.
+#[tactic(auto, unfolding(crate::specs::Addresses::address_row))]
 pub(crate) fn post_address(node: Node) -> Outcome
     ensures { result ≡ address_row node }
 {

@@ -33,6 +33,7 @@ pub(crate) fn set_label(node: Node, bundle: &[u8]) -> Outcome
 }
 
 // 74h, answered 75h: the version.
+#[tactic(auto, unfolding(crate::specs::Identity::version_row))]
 pub(crate) fn post_version(node: Node) -> Outcome
     ensures { result ≡ version_row node }
 {

@@ -32,6 +32,7 @@ pub(crate) fn set_lock(node: Node, source: Address, bundle: &[u8]) -> Outcome
 }
 
 // 26h, answered 36h: status, source, priority, saved.
+#[tactic(auto, unfolding(crate::specs::Locking::lock_row))]
 pub(crate) fn post_lock(node: Node) -> Outcome
     ensures { result ≡ lock_row node }
 {

@@ -64,6 +64,7 @@ pub(crate) fn move_to(node: Node, bundle: &[u8]) -> Outcome
 }
 
 // 0Ch, answered 0Dh: pulse, percent, reserved, IP.
+#[tactic(auto, unfolding(crate::specs::Motor::position_row))]
 pub(crate) fn post_position(node: Node) -> Outcome
     ensures { result ≡ position_row node }
 {
@@ -71,6 +72,7 @@ pub(crate) fn post_position(node: Node) -> Outcome
 }
 
 // 0Eh, answered 0Fh: status, direction, source, cause.
+#[tactic(auto, unfolding(crate::specs::Motor::status_row))]
 pub(crate) fn post_status(node: Node) -> Outcome
     ensures { result ≡ status_row node }
 {

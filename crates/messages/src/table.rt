@@ -10,6 +10,7 @@ use board::Node;
 use frame::Address;
 
 // One row for each message; 10h for any other. SOURCE is needed to lock, and the bundle for its DATA.
+#[tactic(auto, unfolding(crate::specs::Table::outcome_of))]
 pub fn outcome_of(
     node: Node,
     groups: [[u8; 3]; 16],

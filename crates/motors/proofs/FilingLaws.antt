@@ -16,8 +16,8 @@ use Rattle.runs.proofs.Order.{else_false}
 use Rattle.motors.specs.Motor.{unread, with_reading, marked}
 use Rattle.motors.specs.Register.{held, filled, sound_of, found_in, found}
 use Rattle.motors.specs.Report.{report_of, pulse_in, percent_in, ip_in}
-use Rattle.runs.specs.Ordered.{is_some, looked_up}
-use Rattle.motors.specs.Order.{by_line_and_node, Key, key_of, same, same_is}
+use Rattle.runs.specs.Ordered.{is_some}
+use Rattle.motors.specs.Order.{Key, key_of, same, same_is}
 use Rattle.motors.specs.Filing.{keeping, entered, keep_table, kept_of, reported_by, file_table, filing_of, filed_of, count_after}
 use Rattle.motors.specs.declared.answer.Answer.{Answer}
 use Rattle.motors.specs.declared.answer.Answer.TheVariants.{Count, Refused}

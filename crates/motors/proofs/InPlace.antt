@@ -1,37 +1,36 @@
 -- What a call does to the places where they stand is what the meaning says of the records held.
 -- Assumes nothing.
-use Prim.Native.Nat.{ℕ, suc, ◌+◌, ◌-◌, ◌<◌, ◌≤◌, ◌^◌}
+use Prim.Native.Nat.{ℕ, suc, ◌-◌, ◌<◌, ◌≤◌}
 use native.Mathlib.Omega.{arith}
 use mathlib.Core.Path.{◌≡◌, refl, ◌∙◌, sym, ap, ap₂, subst}
-use mathlib.Core.Bool.{Bool, true, false, not}
+use mathlib.Core.Bool.{true, false}
 use mathlib.Core.List.{List}
 use mathlib.Core.Option.{Option, none, some}
-use lib.Dec.{leb, eqb}
+use lib.Dec.{leb}
 use lib.ListN.{length, set}
-use borrow.Author.Tests.{leb-true, leb-false, eqb-true, le-leb, lt-leb, ne_eqb}
-use Rattle.meaning.specs.Choice.{if◌then◌else◌, either}
+use borrow.Author.Tests.{leb-true, leb-false, ne_eqb}
+use Rattle.meaning.specs.Choice.{either}
 use Rattle.meaning.specs.Cases.{by_test, passed_both}
 use Rattle.refusal.specs.declared.Refusal.{Refusal}
-use Rattle.runs.specs.Ordered.{is_some, looked_up, holds, place_of, placed, without}
+use Rattle.runs.specs.Ordered.{is_some, looked_up, holds, place_of}
 use Rattle.runs.specs.Places.{moved_up, moved_down}
 use Rattle.runs.proofs.Lookup.{not_held_is_none, found_is_of_the_kind, found_has_the_key}
-use Rattle.runs.proofs.Place.{place-within, held_exactly_when_at_its_place}
+use Rattle.runs.proofs.Place.{held_exactly_when_at_its_place}
 use Rattle.runs.proofs.Placing.{placed_over_one_held_keeps_the_number, placed_new_is_one_more}
 use Rattle.runs.proofs.Removing.{without_one_held_is_one_less}
 use Rattle.runs.proofs.Moving.{moved_up_keeps_the_length, moved_down_keeps_the_length, from_1_to_0_nothing_moves_up, moved_up_at_one_place_is_set}
 use Rattle.runs.proofs.InPlace.{set_at_its_place_is_placed, moved_up_from_its_place_is_placed, moved_down_to_its_place_is_without}
-use Rattle.motors.specs.Motor.{zeros, unread, is_line, right_of, marked}
+use Rattle.motors.specs.Motor.{zeros, unread, is_line, right_of}
 use Rattle.motors.specs.Order.{by_line_and_node, key_of, same_is}
-use Rattle.motors.specs.Register.{held, filled, sound_of, found, Right, Sound}
+use Rattle.motors.specs.Register.{held, sound_of, Right, Sound}
 use Rattle.motors.specs.Report.{subject_of, shows_reading}
 use Rattle.motors.specs.Found.{found_of, standing}
-use Rattle.motors.specs.Filing.{keeping, refusing, recorded, enrolled, entered, kept_of, reported_by, filing_of, struck_of, is_none}
-use Rattle.motors.specs.Edit.{edit, leaving, adding, to_add, to_confirm, to_renew, to_remove, to_miss, to_enrol, to_file, to_strike, applied}
+use Rattle.motors.specs.Filing.{keeping, recorded, enrolled, entered, kept_of, reported_by, filing_of, struck_of}
+use Rattle.motors.specs.Edit.{edit, leaving, adding, to_remove, to_miss, to_enrol, to_file, to_strike, applied}
 use Rattle.motors.specs.declared.answer.Answer.{Answer}
 use Rattle.motors.specs.declared.answer.Answer.TheVariants.{Count, Refused}
 use Rattle.motors.specs.declared.answer.Next.{Next}
 use Rattle.motors.specs.declared.edit.Edit.{Edit}
-use Rattle.motors.specs.declared.found.Found.{Found}
 use Rattle.motors.specs.declared.found.Found.TheVariants.{Broken, Held, New}
 use Rattle.motors.specs.declared.motor.Motor.{Motor}
 use Rattle.motors.specs.declared.report.Report.{Report}

@@ -8,13 +8,13 @@ use mathlib.Core.Bool.{Bool, true, false, not, ◌&&◌, ◌||◌}
 use mathlib.Core.List.{List, [], ◌∷◌}
 use lib.Bits.{bit_or, or_add_and, and_le_l, and_le_r}
 use lib.Dec.{eqb, ltb, leb}
-use borrow.Author.Tests.{eqb-true, eqb-false, ltb-false, lt-ltb, le-ltb, le-leb, lt-leb, eq-eqb, ne_eqb}
+use borrow.Author.Tests.{eqb-true, eqb-false, lt-ltb, le-ltb, le-leb, lt-leb, eq-eqb, ne_eqb}
 use Rattle.meaning.specs.Choice.{if◌then◌else◌}
 use Rattle.meaning.specs.Cases.{by_test}
 use Rattle.motors.specs.Motor.{is_reading, blank_of, unread_part, key_number, rest_number}
 use Rattle.motors.specs.Register.{all_blank}
 use Rattle.motors.specs.Found.{bits_of}
-use Rattle.motors.specs.Order.{Before, key_of, before, same, earlier_of, as_said, same_is, same_itself, never_before_itself, else_behind}
+use Rattle.motors.specs.Order.{Before, key_of, same, earlier_of, as_said, same_is, else_behind}
 use Rattle.motors.specs.declared.motor.Motor.{Motor}
 
 -- ---- the order of keys is the order of one number, where a NodeID has 32 bits

@@ -11,7 +11,7 @@ use borrow.Author.Tests.{eqb-true, eqb-false, le-leb}
 use Rattle.meaning.specs.Choice.{either}
 use Rattle.meaning.specs.Tests.{holds_by}
 use Rattle.meaning.specs.Tables.{Passed, of_decided}
-use Rattle.frame.specs.Layout.{header_of, data_of, data_count, message, source}
+use Rattle.frame.specs.Layout.{header_of, data_of, data_count}
 use Rattle.frame.specs.Reading.{reading_of, refused_by, IsFrame}
 use Rattle.frame.specs.declared.header.Header.{Header}
 use Rattle.frame.specs.declared.reading.Reading.{Reading}

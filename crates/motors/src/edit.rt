@@ -85,6 +85,7 @@ fn to_add(place: usize, count: usize, report: Report) -> Edit
 }
 
 // A new motor gets its place, or row 24.
+#[tactic(auto, unfolding(crate::specs::Edit::adding))]
 fn add(place: usize, count: usize, motor: Motor) -> Edit
     ensures { result ≡ adding place count motor }
 {
@@ -101,6 +102,7 @@ fn add(place: usize, count: usize, motor: Motor) -> Edit
 }
 
 // A place in a register of none is not one that is held.
+#[tactic(auto, unfolding(crate::specs::Edit::to_remove))]
 fn to_remove(place: usize, count: usize) -> Edit
     ensures { result ≡ to_remove place count }
 {
@@ -118,6 +120,7 @@ fn to_remove(place: usize, count: usize) -> Edit
 }
 
 // Row 20, then 25.
+#[tactic(auto, unfolding(crate::specs::Edit::to_miss))]
 fn to_miss(line: u8) -> Edit
     ensures { result ≡ to_miss line }
 {

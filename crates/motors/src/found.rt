@@ -17,6 +17,7 @@ pub enum Found {
 }
 
 // By the pass over the records held while the motor of a key was looked for, and the bits of the places behind them.
+#[tactic(auto, unfolding(crate::specs::Found::found_by))]
 pub fn found_by(places: usize, count: usize, wanted: u64, passing: Passing, bits: u64) -> Found
     ensures { result ≡ found_by places count wanted passing bits }
 {

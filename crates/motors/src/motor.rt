@@ -58,6 +58,7 @@ pub(crate) fn is_line(line: u32) -> bool
 }
 
 // Row 21.
+#[tactic(auto, unfolding(crate::specs::Motor::is_node))]
 pub(crate) fn is_node(node: u32) -> bool
     ensures { result ≡ is_node node }
 {
@@ -66,6 +67,7 @@ pub(crate) fn is_node(node: u32) -> bool
 }
 
 // Row 23: percent 0 to 100, IP 1 to 16 or FFh, which is next to 0 where a byte begins again.
+#[tactic(auto, using(crate::proofs::Numbers::no_reading, crate::proofs::Numbers::reading_right_lem), unfolding(crate::specs::Motor::is_reading))]
 pub fn is_reading(percent: u8, ip: u8) -> bool
     ensures { result ≡ is_reading percent ip }
 {
@@ -80,6 +82,7 @@ pub fn is_reading(percent: u8, ip: u8) -> bool
 }
 
 // The mark with what it says of the other fields.
+#[tactic(auto, unfolding(crate::specs::Motor::reading_part), using(crate::proofs::Numbers::rest_zero))]
 fn reading_right(motor: Motor) -> bool
     ensures { result ≡ reading_part motor }
 {
@@ -90,6 +93,7 @@ fn reading_right(motor: Motor) -> bool
 }
 
 // A held record's fields but for its line: rows 21, 23, and without a reading zeros.
+#[tactic(auto, unfolding(crate::specs::Motor::right_beside_line))]
 pub(crate) fn right_beside_line(motor: Motor) -> bool
     ensures { result ≡ right_beside_line motor }
 {
@@ -100,6 +104,7 @@ pub(crate) fn right_beside_line(motor: Motor) -> bool
 }
 
 // A record that may stand behind another: row 20 too.
+#[tactic(auto, unfolding(crate::specs::Motor::follows_of, crate::specs::Motor::right_of), using(crate::proofs::Numbers::key_before))]
 pub fn follows(previous: Motor, motor: Motor) -> bool
     ensures { result ≡ follows_of previous motor }
 {

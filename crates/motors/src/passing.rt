@@ -30,6 +30,7 @@ impl Passing {
     }
 
     // The record at a place is passed, while the motor of a key is looked for.
+    #[tactic(auto, unfolding(crate::specs::Passing::past))]
     pub fn past(self, wanted: u64, standing: Motor, at: usize) -> Passing
         ensures { result ≡ past self wanted standing at }
     {
@@ -49,6 +50,7 @@ impl Passing {
         }
     }
 
+    #[tactic(auto, unfolding(crate::specs::Passing::next_by))]
     fn next_by(self, number: u64, standing: Motor) -> u64
         ensures { result ≡ next_by self number standing }
     {

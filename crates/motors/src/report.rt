@@ -31,6 +31,7 @@ pub fn read_report(line: u8, bundle: &[u8]) -> Report
 }
 
 // Rows 20 to 23, in their order.
+#[tactic(auto, unfolding(crate::specs::Report::reported, crate::specs::Motor::is_node, crate::specs::Motor::is_reading))]
 fn framed(line: u8, header: Header, count: usize, bundle: &[u8]) -> Report
     ensures { result ≡ reported line header count (data_of bundle.now) }
 {

@@ -1,15 +1,15 @@
 -- A history keeps the board sound, its settings as they were and its numbers fitting their types; so all that was set up is so ever after.
 -- Assumes nothing.
-use Prim.Native.Nat.{ℕ, zero, suc, ◌≤◌, ◌<◌}
+use Prim.Native.Nat.{ℕ, zero, suc, ◌<◌}
 use native.Mathlib.Omega.{arith}
-use mathlib.Core.Path.{◌≡◌, refl, ◌∙◌}
+use mathlib.Core.Path.{◌≡◌}
 use mathlib.Core.Bool.{true}
 use mathlib.Core.List.{List, [], ◌∷◌, map}
 use lib.ListN.{get_or, take, drop}
 use Rattle.meaning.specs.Choice.{either}
 use Rattle.frame.specs.Layout.{inverted, message, source, header_of, data_of, data_count}
-use Rattle.board.specs.Groups.{Groups, no_groups}
-use Rattle.board.specs.Node.{fresh, sound}
+use Rattle.board.specs.Groups.{Groups}
+use Rattle.board.specs.Node.{sound}
 use Rattle.board.specs.Settings.{in_range}
 use Rattle.board.specs.Typed.{Typed, SettingsTyped}
 use Rattle.board.specs.declared.settings.Settings.{Settings}
@@ -29,7 +29,7 @@ use Rattle.messages.proofs.Fitting.{Fitting, every_message_fits}
 use Rattle.messages.specs.declared.outcome.Outcome.{Outcome}
 use Rattle.node.specs.Replies.{is_said, answered, Proper}
 use Rattle.node.specs.Frames.{turn_of}
-use Rattle.node.specs.Histories.{State, begun, Input, bundle, pulse, blocked, cleared, power_up, heard, after, lived, Fits}
+use Rattle.node.specs.Histories.{State, begun, Input, bundle, pulse, blocked, cleared, power_up, after, lived, Fits}
 use Rattle.node.specs.declared.turn.Turn.{Turn}
 use Rattle.node.proofs.Bundles.{came_to, every_turn}
 use Rattle.node.proofs.Laws.{every_state_passes_row_33_again, every_reply_is_a_frame_to_the_asker}

@@ -27,6 +27,7 @@ impl Serial {
     }
 
     // The serial number of twelve characters.
+    #[tactic(auto, unfolding(crate::specs::Words::serial_in))]
     pub fn of(characters: [u8; 12]) -> Serial
         ensures { result ≡ serial_in characters }
     {
@@ -37,6 +38,7 @@ impl Serial {
         }
     }
 
+    #[tactic(auto, unfolding(crate::specs::Words::characters_of))]
     pub fn characters(self) -> [u8; 12]
         ensures { result ≡ characters_of self }
     {
@@ -56,6 +58,7 @@ impl Serial {
         ]
     }
 
+    #[tactic(auto, unfolding(crate::specs::Words::is_none))]
     pub fn is_none(self) -> bool
         ensures { result ≡ is_none self }
     {
@@ -79,6 +82,7 @@ impl Serial {
     }
 
     // The first word that differs decides.
+    #[tactic(auto, unfolding(crate::specs::Words::serial_before))]
     pub fn is_before(self, other: Serial) -> bool
         ensures { result ≡ serial_before self other }
     {
@@ -91,6 +95,7 @@ impl Serial {
         self.third < other.third
     }
 
+    #[tactic(auto, unfolding(crate::specs::Words::serial_same))]
     pub fn is_same(self, other: Serial) -> bool
         ensures { result ≡ serial_same self other }
     {

@@ -29,6 +29,7 @@ pub fn percent_of_pulse(pulse: Pulse, travel: Pulse) -> Percent
 }
 
 // percent × travel ÷ 100, same rounding; from 100 on, the travel.
+#[tactic(auto, unfolding(crate::specs::Position::pulse_of_percent))]
 pub fn pulse_of_percent(percent: Percent, travel: Pulse) -> Pulse
     ensures { result ≡ pulse_of_percent percent travel }
 {
@@ -40,6 +41,7 @@ pub fn pulse_of_percent(percent: Percent, travel: Pulse) -> Pulse
 }
 
 // Percent of IP i where n share the travel (SET_MOTOR_IP, function 4): 100 × i ÷ (n + 1) rounded down; above n, 100.
+#[tactic(auto, unfolding(crate::specs::Share::share_of))]
 pub fn share_of(i: IpIndex, n: u8) -> Percent
     ensures { result ≡ share_of i n }
 {
