@@ -1,5 +1,6 @@
 -- SOURCE is in the group table exactly when it is an entry that is not empty; and what a change leaves of the table.
 -- Assumes nothing.
+use Rattle.std.specs.Prelude.{if◌then◌else◌}
 use Prim.Native.Nat.{ℕ, zero, suc, ◌<◌, suc-le-suc}
 use native.Mathlib.Omega.{arith}
 use native.Mathlib.Nat.{le_of_suc-le-suc}
@@ -10,7 +11,6 @@ use mathlib.Core.List.{List, [], ◌∷◌}
 use borrow.Author.Tests.{eq-eqb, ne_eqb, eqb-true, eqb-false}
 use lib.Dec.{eqb}
 use lib.ListN.{length, get_or}
-use Rattle.meaning.specs.Choice.{if◌then◌else◌}
 use Rattle.frame.specs.declared.address.Address.{Address}
 use Rattle.board.specs.Groups.{Groups, group_of, is_entry_of, in_table, Member, applied}
 use Rattle.board.specs.declared.groups.Change.TheVariants.{Keep}

@@ -1,7 +1,6 @@
 -- The motor (document 01, "MOVETO", "STOP", "Events").
 -- Assumes nothing.
-use Rattle.std.specs.Prelude.{ℕ, Bool, true, false, ◌&&◌, eqb, ltb, leb}
-use Rattle.meaning.specs.Choice.{if◌then◌else◌}
+use Rattle.std.specs.Prelude.{if◌then◌else◌, ℕ, Bool, true, false, ◌&&◌, eqb, ltb, leb}
 use Rattle.travel.specs.declared.Pulse.{Pulse}
 use Rattle.travel.specs.Units.{pulse}
 use Rattle.board.specs.declared.drive.Motion.{Motion}

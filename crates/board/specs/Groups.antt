@@ -1,7 +1,6 @@
 -- The group table (document 01, "Is the frame for this node?"): sixteen entries of three bytes each.
 -- Assumes nothing.
-use Rattle.std.specs.Prelude.{ℕ, ◌<◌, ◌≡◌, ◌≢◌, Bool, true, false, List, [], ◌∷◌, eqb, ltb, length, get_or, set, replicate}
-use Rattle.meaning.specs.Choice.{if◌then◌else◌}
+use Rattle.std.specs.Prelude.{if◌then◌else◌, ℕ, ◌<◌, ◌≡◌, ◌≢◌, Bool, true, false, List, [], ◌∷◌, eqb, ltb, length, get_or, set, replicate}
 use Rattle.frame.specs.Address.{address_of}
 use Rattle.frame.specs.declared.address.Address.{Address}
 use Rattle.board.specs.declared.groups.Change.{Change}

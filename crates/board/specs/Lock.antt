@@ -1,7 +1,6 @@
 -- The network lock (document 01, "Lock", "Events").
 -- Assumes nothing.
-use Rattle.std.specs.Prelude.{ℕ, Bool, true, false, leb}
-use Rattle.meaning.specs.Choice.{if◌then◌else◌}
+use Rattle.std.specs.Prelude.{if◌then◌else◌, ℕ, Bool, true, false, leb}
 use Rattle.frame.specs.Address.{address}
 use Rattle.frame.specs.declared.address.Address.{Address}
 use Rattle.board.specs.declared.lock.Lock.{Lock}

@@ -1,7 +1,6 @@
 -- The whole state (document 01, row 33, "Status", "Events").
 -- Assumes nothing.
-use Rattle.std.specs.Prelude.{ℕ, List, Bool, ◌&&◌, leb}
-use Rattle.meaning.specs.Choice.{if◌then◌else◌}
+use Rattle.std.specs.Prelude.{if◌then◌else◌, ℕ, List, Bool, ◌&&◌, leb}
 use Rattle.board.specs.Settings.{in_range}
 use Rattle.board.specs.Drive.{fresh_drive, drive_within, is_running}
 use Rattle.board.specs.Favourites.{no_favourites, ips_within}

@@ -1,8 +1,7 @@
 -- Stored form 1 (document 01, "The register and its stored form"): it begins with 01h, and a body is 1, pulse, percent,
 -- IP, or five zeros when no reading exists.
 -- Assumes nothing.
-use Rattle.std.specs.Prelude.{ℕ, ◌≤◌, ◌<◌, ◌≡◌, Bool, false, List, [], ◌∷◌, ◌++◌, eqb, length, get_or}
-use Rattle.meaning.specs.Choice.{if◌then◌else◌}
+use Rattle.std.specs.Prelude.{if◌then◌else◌, ℕ, ◌≤◌, ◌<◌, ◌≡◌, Bool, false, List, [], ◌∷◌, ◌++◌, eqb, length, get_or}
 use Rattle.frame.specs.Words.{bytes_of_word, word_at}
 use Rattle.runs.specs.Ordered.{All}
 use Rattle.motors.specs.Motor.{unread, with_reading, marked, is_reading}

@@ -1,8 +1,7 @@
 -- Stored forms (document 01, "The register and its stored form"), over the shape of their bodies: a first byte; count;
 -- contents, an entry for each motor; bodies in that order.
 -- Assumes nothing.
-use Rattle.std.specs.Prelude.{ℕ, zero, suc, ◌+◌, ◌*◌, ◌%◌, Bool, true, false, List, [], ◌∷◌, ◌++◌, eqb, length, get_or, take, drop}
-use Rattle.meaning.specs.Choice.{if◌then◌else◌}
+use Rattle.std.specs.Prelude.{if◌then◌else◌, ℕ, zero, suc, ◌+◌, ◌*◌, ◌%◌, Bool, true, false, List, [], ◌∷◌, ◌++◌, eqb, length, get_or, take, drop}
 use Rattle.frame.specs.Address.{address, address_of, bytes_of}
 use Rattle.frame.specs.Words.{bytes_of_word, word_at}
 use Rattle.motors.specs.Motor.{zeros, is_line, is_node}

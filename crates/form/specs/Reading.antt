@@ -1,7 +1,6 @@
 -- Reading a stored form (document 01, rows 19 and 40 to 44): the answer, and the places at the end.
 -- Assumes nothing.
-use Rattle.std.specs.Prelude.{ℕ, Bool, true, false, List, [], ◌∷◌, leb, ltb, eqb, length, get_or}
-use Rattle.meaning.specs.Choice.{if◌then◌else◌}
+use Rattle.std.specs.Prelude.{if◌then◌else◌, ℕ, Bool, true, false, List, [], ◌∷◌, leb, ltb, eqb, length, get_or}
 use Rattle.meaning.specs.Tests.{◌below◌, ◌above◌, ◌is_not◌, fails, ◌or◌}
 use Rattle.meaning.specs.Tables.{Row, ◌when◌, decide}
 use Rattle.refusal.specs.declared.Refusal.{Refusal}

@@ -1,7 +1,6 @@
 -- Writing stored form 1 (document 01, rows 19 and 45): the answer, and what then stands in the lent buffer.
 -- Assumes nothing.
-use Rattle.std.specs.Prelude.{ℕ, zero, suc, Bool, true, false, List, [], ◌∷◌, ◌++◌, leb, ltb, length, get_or, take, drop}
-use Rattle.meaning.specs.Choice.{if◌then◌else◌}
+use Rattle.std.specs.Prelude.{if◌then◌else◌, ℕ, zero, suc, Bool, true, false, List, [], ◌∷◌, ◌++◌, leb, ltb, length, get_or, take, drop}
 use Rattle.meaning.specs.Tests.{◌below◌, ◌above◌, fails}
 use Rattle.meaning.specs.Tables.{Row, ◌when◌, decide}
 use Rattle.refusal.specs.declared.Refusal.{Refusal}

@@ -1,7 +1,6 @@
 -- Writing a frame (document 01, rows 10 to 14): its wire bytes, the answer, and what then stands in the lent buffer.
 -- Assumes nothing.
-use Rattle.std.specs.Prelude.{ℕ, ◌+◌, ◌-◌, ◌*◌, ◌/◌, ◌%◌, ◌≤◌, ◌≢◌, Bool, List, [], ◌∷◌, ◌++◌, map, eqb, length, take, drop}
-use Rattle.meaning.specs.Choice.{if◌then◌else◌}
+use Rattle.std.specs.Prelude.{if◌then◌else◌, ℕ, ◌+◌, ◌-◌, ◌*◌, ◌/◌, ◌%◌, ◌≤◌, ◌≢◌, Bool, List, [], ◌∷◌, ◌++◌, map, eqb, length, take, drop}
 use Rattle.meaning.specs.Tests.{◌below◌, ◌above◌, ◌is◌, ◌or◌}
 use Rattle.meaning.specs.Tables.{Row, ◌when◌, decide}
 use Rattle.refusal.specs.Number.{number_of}

@@ -1,5 +1,6 @@
 -- Many bytes join the open bundle: one by one while there is room, and then none is kept.
 -- Assumes nothing.
+use Rattle.std.specs.Prelude.{if◌then◌else◌}
 use Prim.Native.Nat.{ℕ, ◌+◌, ◌≤◌, ◌<◌}
 use native.Mathlib.Omega.{arith}
 use native.Mathlib.Numerals.{add-one}
@@ -11,7 +12,6 @@ use borrow.Author.Tests.{lt-ltb, le-ltb}
 use lib.Dec.{ltb}
 use lib.ListN.{length, get_or, take, drop, set, length-drop, take-append-drop}
 use lib.Seq.{take-suc}
-use Rattle.meaning.specs.Choice.{if◌then◌else◌}
 use Rattle.line.specs.Reader.{reader, joined}
 use Rattle.line.specs.declared.reader.Reader.{Reader}
 

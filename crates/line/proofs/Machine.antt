@@ -1,5 +1,6 @@
 -- The reader, which keeps 31 bytes and a count, tells what splitting the recording into whole bundles tells.
 -- Assumes nothing.
+use Rattle.std.specs.Prelude.{if◌then◌else◌}
 use Prim.Native.Nat.{ℕ, zero, suc, ◌+◌, ◌-◌, ◌≤◌, ◌<◌, min}
 use native.Mathlib.Omega.{arith}
 use mathlib.Core.Path.{◌≡◌, refl, ap, ap₂}
@@ -10,7 +11,6 @@ use borrow.Author.Tests.{ltb-true, ltb-false, leb-true, leb-false}
 use lib.Dec.{leb, ltb}
 use lib.ListN.{length, take, drop, set, replicate, length-append, length-take, length-replicate}
 use lib.Seq.{take_all, take-append_seam, drop-append_seam, take-append-le, set-append_seam, append_snoc}
-use Rattle.meaning.specs.Choice.{if◌then◌else◌}
 use Rattle.frame.specs.Layout.{header_of, data_count}
 use Rattle.frame.specs.Reading.{IsFrame, reading_of}
 use Rattle.frame.proofs.Frames.{Numbered, frame_or_refused, frame_is_read}

@@ -1,5 +1,6 @@
 -- A sound reader stays sound, and with no bundle open it is the fresh one.
 -- Assumes nothing.
+use Rattle.std.specs.Prelude.{if◌then◌else◌}
 use Prim.Native.Nat.{ℕ, ◌+◌, ◌≤◌, ◌<◌}
 use native.Mathlib.Omega.{arith}
 use native.Mathlib.Numerals.{add-one}
@@ -11,7 +12,6 @@ use borrow.Author.Tests.{leb-true, leb-false, le-leb, eqb-true, ltb-true}
 use lib.Dec.{leb, ltb, eqb}
 use lib.ListN.{length, drop, set, replicate, length-set}
 use lib.Seq.{drop-cons, drop-set-lt}
-use Rattle.meaning.specs.Choice.{if◌then◌else◌}
 use Rattle.line.specs.Telling.{Entry, after, reader_after}
 use Rattle.line.specs.Reader.{fresh, reader, begun, no_bytes, all_zeros, is_sound, joined, stepped, step_of}
 use Rattle.line.specs.declared.reader.Reader.{Reader}

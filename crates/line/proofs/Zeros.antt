@@ -1,5 +1,6 @@
 -- Zeros to the end of a list, place by place and part by part.
 -- Assumes nothing.
+use Rattle.std.specs.Prelude.{if◌then◌else◌}
 use Prim.Native.Nat.{ℕ, ◌+◌, ◌-◌, ◌≤◌, ◌<◌}
 use native.Mathlib.Omega.{arith}
 use native.Mathlib.Numerals.{add-one}
@@ -11,7 +12,7 @@ use borrow.Author.Tests.{eq-eqb, ne_eqb, eqb-true, eqb-false}
 use lib.Dec.{eqb}
 use lib.ListN.{length, get_or, take, drop, drop_of_length-le, take-append-drop}
 use lib.Seq.{drop-cons, drop-drop, take-take, take-add}
-use Rattle.meaning.specs.Choice.{if◌then◌else◌, false_is_not_true}
+use Rattle.meaning.specs.Choice.{false_is_not_true}
 use Rattle.line.specs.Reader.{all_zeros}
 
 module _ (l : List ℕ) (i : ℕ) where

@@ -1,7 +1,6 @@
 -- The reader of a line (document 01, "From wire to frame" and rows 7, 8, 9).
 -- Assumes nothing.
-use Rattle.std.specs.Prelude.{ℕ, suc, ◌+◌, Bool, true, false, not, List, [], ◌∷◌, eqb, leb, ltb, length, take, drop, set, replicate}
-use Rattle.meaning.specs.Choice.{if◌then◌else◌}
+use Rattle.std.specs.Prelude.{if◌then◌else◌, ℕ, suc, ◌+◌, Bool, true, false, not, List, [], ◌∷◌, eqb, leb, ltb, length, take, drop, set, replicate}
 use Rattle.refusal.specs.declared.Refusal.{Refusal}
 use Rattle.frame.specs.Reading.{reading_of}
 use Rattle.frame.specs.declared.reading.Reading.{Reading}

@@ -1,13 +1,8 @@
 -- A choice by a test, so that a definition reads like a table: the first test that holds decides.
 -- Assumes nothing.
-use Rattle.std.specs.Prelude.{ℕ, ◌≡◌, refl, Bool, true, false}
+use Rattle.std.specs.Prelude.{if◌then◌else◌, ℕ, ◌≡◌, refl, Bool, true, false}
 use Rattle.std.proofs.Common.{arith}
 
-abbrev pub if◌then◌else◌ : {A : Type 0} → Bool → A → A → A
-if◌then◌else◌ true a b = a
-if◌then◌else◌ false a b = b
-
-infixr 1 if◌then◌else◌
 -- What holds of each way, when the test says that it is taken, holds of the choice.
 pub either : {A : Type 0} (P : A → Type 0) (t : Bool) {x y : A} → (t ≡ true → P x) → (t ≡ false → P y)
     → P (if t then x else y)

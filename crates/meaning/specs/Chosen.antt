@@ -1,9 +1,8 @@
 -- A choice whose tests are known.
 -- Assumes nothing.
-use Rattle.std.specs.Prelude.{◌≡◌, Bool, true, false, not}
+use Rattle.std.specs.Prelude.{if◌then◌else◌, ◌≡◌, Bool, true, false, not}
 use Rattle.std.proofs.Common.{◌∙◌, sym}
 use Rattle.std.proofs.lemmas.Bool.{not-true, not-false}
-use Rattle.meaning.specs.Choice.{if◌then◌else◌}
 
 module _ {A : Type 0} (test : Bool) (x y : A) where
   pub chosen : test ≡ true → (if test then x else y) ≡ x

@@ -1,8 +1,8 @@
 -- Tables, read like the paper's from top to bottom: the first row whose test holds gives the answer.
 -- Assumes nothing.
-use Rattle.std.specs.Prelude.{ℕ, zero, suc, ◌≡◌, refl, ◌⊎◌, Bool, true, false, List, [], ◌∷◌, ◌++◌}
+use Rattle.std.specs.Prelude.{if◌then◌else◌, ℕ, zero, suc, ◌≡◌, refl, ◌⊎◌, Bool, true, false, List, [], ◌∷◌, ◌++◌}
 use Rattle.std.proofs.Common.{ap, inl, inr, ⊎_elim}
-use Rattle.meaning.specs.Choice.{if◌then◌else◌, either}
+use Rattle.meaning.specs.Choice.{either}
 use Rattle.meaning.specs.Tests.{Test, holds_by, passed_by}
 
 -- A row: its answer, and the test by which it applies.

@@ -1,7 +1,6 @@
 -- The fields of DATA (document 01): extra bytes are ignored.
 -- Assumes nothing.
-use Rattle.std.specs.Prelude.{ℕ, Bool, List, length, get_or}
-use Rattle.meaning.specs.Choice.{if◌then◌else◌}
+use Rattle.std.specs.Prelude.{if◌then◌else◌, ℕ, Bool, List, length, get_or}
 use Rattle.meaning.specs.Tests.{Test, ◌below◌}
 
 abbrev pub byte_at : List ℕ → ℕ → ℕ

@@ -1,7 +1,6 @@
 -- SET_MOTOR_IP, and what is told of an IP (document 01, under the message table).
 -- Assumes nothing.
-use Rattle.std.specs.Prelude.{ℕ, Bool, true, false, not, List, [], ◌∷◌, eqb, leb, ltb}
-use Rattle.meaning.specs.Choice.{if◌then◌else◌}
+use Rattle.std.specs.Prelude.{if◌then◌else◌, ℕ, Bool, true, false, not, List, [], ◌∷◌, eqb, leb, ltb}
 use Rattle.meaning.specs.Tables.{Row, ◌when◌}
 use Rattle.meaning.specs.Tests.{fails}
 use Rattle.travel.specs.Units.{percent, ip}

@@ -1,7 +1,6 @@
 -- SET_NETWORK_LOCK, and what is told of the lock (document 01, "Lock"; 000 for 36h's status).
 -- Assumes nothing.
-use Rattle.std.specs.Prelude.{ℕ, true, false, List, [], ◌∷◌, ◌++◌, eqb}
-use Rattle.meaning.specs.Choice.{if◌then◌else◌}
+use Rattle.std.specs.Prelude.{if◌then◌else◌, ℕ, true, false, List, [], ◌∷◌, ◌++◌, eqb}
 use Rattle.meaning.specs.Membership.{is_in}
 use Rattle.meaning.specs.Tables.{Row, ◌when◌}
 use Rattle.meaning.specs.Tests.{fails, ◌at_most◌, ◌and◌}

@@ -1,7 +1,6 @@
 -- STOP, MOVETO, position and status (document 01, under the message table).
 -- Assumes nothing.
-use Rattle.std.specs.Prelude.{ℕ, Bool, true, false, List, [], ◌∷◌, ◌++◌, eqb, leb}
-use Rattle.meaning.specs.Choice.{if◌then◌else◌}
+use Rattle.std.specs.Prelude.{if◌then◌else◌, ℕ, Bool, true, false, List, [], ◌∷◌, ◌++◌, eqb, leb}
 use Rattle.meaning.specs.Tables.{Row, ◌when◌}
 use Rattle.meaning.specs.Tests.{succeeds, fails}
 use Rattle.travel.specs.Units.{pulse, percent, ip}

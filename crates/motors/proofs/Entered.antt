@@ -1,5 +1,6 @@
 -- A report entered among the records held: what is found after it, the order and the number.
 -- Assumes nothing.
+use Rattle.std.specs.Prelude.{if◌then◌else◌}
 use Prim.Native.Nat.{ℕ, suc, ◌+◌, ◌≤◌}
 use native.Mathlib.Omega.{arith}
 use mathlib.Core.Path.{◌≡◌, refl, ◌∙◌, sym, ap}
@@ -7,7 +8,7 @@ use mathlib.Core.Bool.{true, false, false≢true}
 use mathlib.Core.List.{List}
 use mathlib.Core.Option.{Option, none, some}
 use lib.ListN.{length}
-use Rattle.meaning.specs.Choice.{if◌then◌else◌, either}
+use Rattle.meaning.specs.Choice.{either}
 use Rattle.meaning.specs.Cases.{by_test}
 use Rattle.runs.specs.Ordered.{is_some, looked_up, holds, Ascending, All}
 use Rattle.runs.proofs.Lookup.{not_held_is_none}

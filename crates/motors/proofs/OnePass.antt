@@ -1,5 +1,6 @@
 -- One pass over the records, by keys as numbers, finds what the order says.
 -- Assumes nothing.
+use Rattle.std.specs.Prelude.{if◌then◌else◌}
 use Prim.Native.Nat.{ℕ, suc, ◌+◌, ◌<◌, ◌≤◌, ◌^◌}
 use native.Mathlib.Omega.{arith}
 use native.Mathlib.Nat.{le_of_suc-le-suc}
@@ -10,7 +11,6 @@ use mathlib.Core.List.{List, [], ◌∷◌}
 use lib.Dec.{ltb, leb, eqb}
 use lib.ListN.{length, get_or, drop, length-take}
 use borrow.Author.Tests.{leb-true, leb-false, eqb-true, eqb-false, lt-ltb, le-ltb, eq-eqb, ne_eqb}
-use Rattle.meaning.specs.Choice.{if◌then◌else◌}
 use Rattle.meaning.specs.Cases.{by_test, passed_both}
 use Rattle.runs.specs.Ordered.{holds, place_of, Ascending}
 use Rattle.runs.proofs.ByPlace.{all_exactly_when_by_place}

@@ -1,7 +1,6 @@
 -- What a call does to the places (rows 19 to 25).
 -- Assumes nothing.
-use Rattle.std.specs.Prelude.{ℕ, ◌+◌, ◌-◌, Bool, true, false, not, List, leb, eqb}
-use Rattle.meaning.specs.Choice.{if◌then◌else◌}
+use Rattle.std.specs.Prelude.{if◌then◌else◌, ℕ, ◌+◌, ◌-◌, Bool, true, false, not, List, leb, eqb}
 use Rattle.refusal.specs.declared.Refusal.{Refusal}
 use Rattle.runs.specs.Places.{moved_up, moved_down}
 use Rattle.motors.specs.Motor.{zeros, is_line}

@@ -1,11 +1,10 @@
 -- Filing a frame and striking a motor out: the answer and the places at the end (document 01, "The register", rows 19
 -- to 25).
 -- Assumes nothing.
-use Rattle.std.specs.Prelude.{ℕ, ◌≡◌, refl, true, not, List, [], ◌∷◌, length}
+use Rattle.std.specs.Prelude.{if◌then◌else◌, ℕ, ◌≡◌, refl, true, not, List, [], ◌∷◌, length}
 use Rattle.std.proofs.Common.{◌∙◌, sym, ap}
 use Rattle.std.proofs.lemmas.Bool.{false≢true, not-false}
 use Rattle.std.proofs.Math.Option.{Option, none, some}
-use Rattle.meaning.specs.Choice.{if◌then◌else◌}
 use Rattle.meaning.specs.Tests.{Test, ◌above◌, fails}
 use Rattle.meaning.specs.Tables.{Row, ◌when◌, decide}
 use Rattle.refusal.specs.declared.Refusal.{Refusal}

@@ -1,8 +1,7 @@
 -- What is found of a motor in a run of places (row 19, and the order of records).
 -- Assumes nothing.
-use Rattle.std.specs.Prelude.{ℕ, Bool, false, not, List, [], ◌∷◌, leb, eqb}
+use Rattle.std.specs.Prelude.{if◌then◌else◌, ℕ, Bool, false, not, List, [], ◌∷◌, leb, eqb}
 use Rattle.std.specs.Int.Bits.{bit_or}
-use Rattle.meaning.specs.Choice.{if◌then◌else◌}
 use Rattle.runs.specs.Ordered.{holds, place_of}
 use Rattle.motors.specs.Motor.{key_number, rest_number}
 use Rattle.motors.specs.Order.{by_line_and_node, key_of}

@@ -1,7 +1,6 @@
 -- A motor's record, and what its fields may hold (document 01, "The register", rows 20, 21 and 23).
 -- Assumes nothing.
-use Rattle.std.specs.Prelude.{ℕ, ◌+◌, ◌*◌, Bool, false, leb, eqb}
-use Rattle.meaning.specs.Choice.{if◌then◌else◌}
+use Rattle.std.specs.Prelude.{if◌then◌else◌, ℕ, ◌+◌, ◌*◌, Bool, false, leb, eqb}
 use Rattle.meaning.specs.Tests.{Test, ◌at_most◌, ◌is◌, ◌or◌, ◌and◌}
 use Rattle.frame.specs.Address.{address, a_node_id}
 use Rattle.travel.specs.Units.{an_ip}

@@ -1,14 +1,13 @@
 -- The order of motors (document 01, "The register"): a motor is a line and a NodeID, and records stand in ascending
 -- order of line, then NodeID as a number.
 -- Assumes nothing.
-use Rattle.std.specs.Prelude.{ℕ, ◌<◌, ◌≤◌, ◌≡◌, refl, ◌⊎◌, Bool, false, ltb, eqb}
+use Rattle.std.specs.Prelude.{if◌then◌else◌, ℕ, ◌<◌, ◌≤◌, ◌≡◌, refl, ◌⊎◌, Bool, false, ltb, eqb}
 use Rattle.std.proofs.Common.{arith, ◌∙◌, sym}
 use Rattle.std.proofs.Math.Path.{ap₂}
 use Rattle.std.proofs.Math.Logic.{inl, inr}
 use Rattle.std.proofs.Math.Bool.{true}
 use Rattle.std.proofs.lemmas.Bool.{false≢true}
 use borrow.Author.Tests.{ltb-true, ltb-false, eqb-true, eqb-false, lt-ltb, le-ltb, eq-eqb}
-use Rattle.meaning.specs.Choice.{if◌then◌else◌}
 use Rattle.meaning.specs.Cases.{by_test, passed_both}
 use Rattle.runs.specs.Ordered.{Ordered}
 use Rattle.motors.specs.declared.motor.Motor.{Motor}

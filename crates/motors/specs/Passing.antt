@@ -1,7 +1,6 @@
 -- One pass over the records held, from the last place to the first (row 19, and the order of records).
 -- Assumes nothing.
-use Rattle.std.specs.Prelude.{ℕ, suc, List, [], ◌∷◌, ltb}
-use Rattle.meaning.specs.Choice.{if◌then◌else◌}
+use Rattle.std.specs.Prelude.{if◌then◌else◌, ℕ, suc, List, [], ◌∷◌, ltb}
 use Rattle.motors.specs.Motor.{key_number, right_beside_line}
 use Rattle.motors.specs.Register.{held}
 use Rattle.motors.specs.declared.motor.Motor.{Motor}

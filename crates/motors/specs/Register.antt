@@ -1,8 +1,7 @@
 -- The register: a run of places with a count (document 01, "The register", row 19).
 -- Assumes nothing.
-use Rattle.std.specs.Prelude.{ℕ, ◌≤◌, ◌≡◌, Bool, true, false, List, [], ◌∷◌, leb, eqb, length, take, drop}
+use Rattle.std.specs.Prelude.{if◌then◌else◌, ℕ, ◌≤◌, ◌≡◌, Bool, true, false, List, [], ◌∷◌, leb, eqb, length, take, drop}
 use Rattle.std.proofs.Math.Option.{Option}
-use Rattle.meaning.specs.Choice.{if◌then◌else◌}
 use Rattle.runs.specs.Ordered.{looked_up, Ascending, All}
 use Rattle.runs.specs.Places as runs
 use Rattle.motors.specs.Motor.{zeros, right_of, blank_of}

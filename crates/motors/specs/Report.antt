@@ -1,7 +1,6 @@
 -- What a frame from a line reports (document 01, "The register", rows 1 to 6 and 20 to 23).
 -- Assumes nothing.
-use Rattle.std.specs.Prelude.{ℕ, Bool, false, List, [], ◌∷◌, eqb, get_or}
-use Rattle.meaning.specs.Choice.{if◌then◌else◌}
+use Rattle.std.specs.Prelude.{if◌then◌else◌, ℕ, Bool, false, List, [], ◌∷◌, eqb, get_or}
 use Rattle.meaning.specs.Tests.{Test, ◌below◌, ◌above◌, opposite, ◌is◌, ◌is_not◌, ◌or◌, ◌and◌}
 use Rattle.meaning.specs.Tables.{Row, ◌when◌, decide}
 use Rattle.refusal.specs.declared.Refusal.{Refusal}

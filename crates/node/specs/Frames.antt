@@ -1,7 +1,6 @@
 -- What a bundle leads to (document 01, rows 33 and 1 to 6, "Is the frame for this node?").
 -- Assumes nothing.
-use Rattle.std.specs.Prelude.{ℕ, not, List}
-use Rattle.meaning.specs.Choice.{if◌then◌else◌}
+use Rattle.std.specs.Prelude.{if◌then◌else◌, ℕ, not, List}
 use Rattle.refusal.specs.declared.Refusal.{Refusal}
 use Rattle.frame.specs.Layout.{data_of}
 use Rattle.frame.specs.Reading.{reading_of}

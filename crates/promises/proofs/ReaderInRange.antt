@@ -1,5 +1,6 @@
 -- Row 9 place by place is the reader's own test, and a step keeps it; of 31 bytes, those behind the count are zeros.
 -- Assumes nothing.
+use Rattle.std.specs.Prelude.{if◌then◌else◌}
 use Prim.Native.Nat.{ℕ, zero, suc, ◌+◌, ◌-◌, ◌≤◌, ◌<◌}
 use native.Mathlib.Omega.{arith}
 use mathlib.Core.Path.{◌≡◌, refl, ◌∙◌, sym, ap}
@@ -11,7 +12,6 @@ use lib.Dec.{leb, ltb, eqb}
 use lib.ListN.{length, get_or, take, drop, set, replicate, length-drop, length-replicate, get_or-replicate, take-append-drop}
 use lib.Seq.{get_or-drop, get_or-set_other, ext_get_or, set_split}
 use Rattle.meaning.specs.Cases.{by_test, passed_both}
-use Rattle.meaning.specs.Choice.{if◌then◌else◌}
 use Rattle.line.specs.Reader.{all_zeros, is_sound, reader, fresh, begun, joined, step_of}
 use Rattle.line.specs.declared.reader.Reader.{Reader}
 use Rattle.line.proofs.Steps.{step-ends, step_joins, goes_on_as}

@@ -1,5 +1,6 @@
 -- What a message comes to, as the turn whole: carried out, refused by a code, or a GET answered.
 -- Assumes nothing.
+use Rattle.std.specs.Prelude.{if◌then◌else◌}
 use Prim.Native.Nat.{ℕ, ◌≤◌, ◌<◌}
 use native.Mathlib.Omega.{arith}
 use mathlib.Core.Path.{◌≡◌, refl, ◌∙◌, sym, ap, subst}
@@ -8,7 +9,7 @@ use mathlib.Core.List.{List, [], ◌∷◌}
 use borrow.Author.Tests.{leb-true, leb-false}
 use lib.ListN.{length}
 use Rattle.meaning.specs.Bytes.{Bytes}
-use Rattle.meaning.specs.Choice.{if◌then◌else◌, either}
+use Rattle.meaning.specs.Choice.{either}
 use Rattle.meaning.specs.Tables as tables
 use Rattle.frame.specs.Layout.{message, source, header_of, data_of}
 use Rattle.board.specs.Groups.{Groups}

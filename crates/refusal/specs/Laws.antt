@@ -1,8 +1,7 @@
 -- No two rows of the table share a number: the table finds each refusal by its number.
 -- Assumes nothing.
-use Rattle.std.specs.Prelude.{ℕ, ◌≡◌, refl, List, [], ◌∷◌, eqb}
+use Rattle.std.specs.Prelude.{if◌then◌else◌, ℕ, ◌≡◌, refl, List, [], ◌∷◌, eqb}
 use Rattle.std.proofs.Common.{◌∙◌, sym, ap}
-use Rattle.meaning.specs.Choice.{if◌then◌else◌}
 use Rattle.refusal.specs.Number.{number_of}
 use Rattle.refusal.specs.declared.Refusal.{Refusal}
 use Rattle.refusal.specs.declared.Refusal.TheVariants.{

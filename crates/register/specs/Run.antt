@@ -1,7 +1,6 @@
 -- A lent run: numbers of places, and places that are set.
 -- Assumes nothing.
-use Rattle.std.specs.Prelude.{ℕ, List, ◌++◌, ltb, length, take, drop}
-use Rattle.meaning.specs.Choice.{if◌then◌else◌}
+use Rattle.std.specs.Prelude.{if◌then◌else◌, ℕ, List, ◌++◌, ltb, length, take, drop}
 use Rattle.runs.specs.Places.{filled}
 use Rattle.motors.specs.Motor.{zeros}
 use Rattle.motors.specs.declared.motor.Motor.{Motor}

@@ -1,13 +1,12 @@
 -- Orders of keys: numbers, one key and behind it another, and keys in a row, the first that differs deciding.
 -- Assumes nothing.
-use Rattle.std.specs.Prelude.{ℕ, ◌<◌, ◌≤◌, ◌≡◌, ◌⊎◌, Bool, false, ltb, eqb}
+use Rattle.std.specs.Prelude.{if◌then◌else◌, ℕ, ◌<◌, ◌≤◌, ◌≡◌, ◌⊎◌, Bool, false, ltb, eqb}
 use Rattle.std.proofs.Common.{arith, ◌∙◌, sym, ltb-true, ltb-false, eqb-true, lt-ltb, le-ltb, eq-eqb}
 use Rattle.std.proofs.Math.Path.{refl, ap₂}
 use Rattle.std.proofs.Math.Logic.{inl, inr}
 use Rattle.std.proofs.Math.Bool.{true}
 use Rattle.std.proofs.lemmas.Bool.{false≢true, eqb-false}
 use mathlib.Core.List.{List, [], ◌∷◌}
-use Rattle.meaning.specs.Choice.{if◌then◌else◌}
 use Rattle.meaning.specs.Cases.{by_test, passed_both}
 
 -- A strict order of which any two keys are the same or one stands before the other.

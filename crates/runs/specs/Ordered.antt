@@ -1,9 +1,8 @@
 -- Runs of records in ascending order of their keys, over any record: what is found, where a record stands, a record put
 -- in and one taken out.
 -- Assumes nothing.
-use Rattle.std.specs.Prelude.{ℕ, suc, ◌≡◌, Bool, true, false, List, [], ◌∷◌}
+use Rattle.std.specs.Prelude.{if◌then◌else◌, ℕ, suc, ◌≡◌, Bool, true, false, List, [], ◌∷◌}
 use Rattle.std.proofs.Math.Option.{Option, none, some}
-use Rattle.meaning.specs.Choice.{if◌then◌else◌}
 use Rattle.runs.specs.Keys.{Order}
 
 -- A record has a key, and keys stand in a strict order of which any two are the same or one stands before the other.

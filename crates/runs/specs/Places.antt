@@ -1,8 +1,7 @@
 -- Places that hold a run, at any capacity, and records that move by one place; places are counted from 0, and `blank`
 -- is the record of a place that holds none.
 -- Assumes nothing.
-use Rattle.std.specs.Prelude.{ℕ, zero, suc, ◌+◌, ◌-◌, List, [], ◌∷◌, ◌++◌, ltb, length, get_or, set, take, drop, replicate}
-use Rattle.meaning.specs.Choice.{if◌then◌else◌}
+use Rattle.std.specs.Prelude.{if◌then◌else◌, ℕ, zero, suc, ◌+◌, ◌-◌, List, [], ◌∷◌, ◌++◌, ltb, length, get_or, set, take, drop, replicate}
 
 -- The `n` places that hold these records: behind them all blank.
 unfoldable pub filled : {R : Type 0} (n : ℕ) → R → List R → List R

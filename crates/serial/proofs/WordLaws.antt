@@ -1,5 +1,6 @@
 -- A serial number's words and its characters: one goes for the other, and they have one order.
 -- Assumes nothing.
+use Rattle.std.specs.Prelude.{if◌then◌else◌}
 use Prim.Native.Nat.{ℕ, zero, suc, ◌+◌, ◌*◌, ◌/◌, ◌%◌, ◌<◌}
 use native.Mathlib.Omega.{arith}
 use mathlib.Core.Path.{◌≡◌, refl, sym, ap, ◌∙◌}
@@ -11,7 +12,6 @@ use lib.ListN.{length, get_or}
 use borrow.Author.Tests.{ltb-true, ltb-false, eqb-true, eqb-false, lt-ltb, le-ltb, eq-eqb, ne_eqb}
 use Rattle.meaning.specs.Bytes.{Bytes}
 use Rattle.meaning.specs.Cases.{by_test, both}
-use Rattle.meaning.specs.Choice.{if◌then◌else◌}
 use Rattle.meaning.specs.Tests.{Test, ◌is◌, succeeds, ◌and◌, holds_by}
 use Rattle.runs.specs.Keys.{numbers, row_before, row_same, row_same_is, row_itself}
 use Rattle.serial.specs.Serial.{hex_digit, node_digits, begins, a_week, a_serial_of, is_serial_of, is_origin, origin_of}

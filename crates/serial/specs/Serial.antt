@@ -1,7 +1,6 @@
 -- A motor's serial number (02, 2026-01): twelve ASCII characters, its NodeID in six hex digits and then its origin.
 -- Assumes nothing.
-use Rattle.std.specs.Prelude.{ℕ, ◌+◌, ◌-◌, ◌*◌, ◌/◌, ◌%◌, ◌≤◌, ◌⊎◌, Bool, true, false, ◌&&◌, List, [], ◌∷◌, ◌++◌, ltb, eqb, length, get_or, drop}
-use Rattle.meaning.specs.Choice.{if◌then◌else◌}
+use Rattle.std.specs.Prelude.{if◌then◌else◌, ℕ, ◌+◌, ◌-◌, ◌*◌, ◌/◌, ◌%◌, ◌≤◌, ◌⊎◌, Bool, true, false, ◌&&◌, List, [], ◌∷◌, ◌++◌, ltb, eqb, length, get_or, drop}
 use Rattle.meaning.specs.Tests.{Test, ◌at_least◌, ◌at_most◌, ◌is◌, succeeds, ◌and◌}
 
 -- ---- spelling

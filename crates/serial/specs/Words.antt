@@ -1,8 +1,7 @@
 -- A serial number in a motor's record (02, 2026-05): three words of four characters each, the first character high, so
 -- that the order of the words is that of the characters. Zeros: none.
 -- Assumes nothing.
-use Rattle.std.specs.Prelude.{ℕ, ◌+◌, ◌*◌, ◌/◌, ◌%◌, Bool, ◌&&◌, List, [], ◌∷◌, ◌++◌, ltb, eqb, get_or}
-use Rattle.meaning.specs.Choice.{if◌then◌else◌}
+use Rattle.std.specs.Prelude.{if◌then◌else◌, ℕ, ◌+◌, ◌*◌, ◌/◌, ◌%◌, Bool, ◌&&◌, List, [], ◌∷◌, ◌++◌, ltb, eqb, get_or}
 use Rattle.meaning.specs.Tests.{Test, ◌at_least◌, ◌at_most◌, ◌and◌}
 use Rattle.serial.specs.Serial.{hex_digit}
 use Rattle.serial.specs.declared.words.Serial.{Serial}

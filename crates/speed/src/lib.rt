@@ -4,7 +4,7 @@
 
 mod bundles;
 mod filings;
-mod messages;
 mod recording;
 mod slots;
+mod transmitter;
 mod turns;

@@ -1,9 +1,9 @@
 -- How often a span is halved until one number is left (document 02, 2026-02).
 -- Assumes nothing.
-use Rattle.std.specs.Prelude.{ℕ, ◌+◌, ◌*◌, ◌<◌, ◌≤◌, ◌≡◌, refl, List, [], ◌∷◌, leb}
+use Rattle.std.specs.Prelude.{if◌then◌else◌, ℕ, ◌+◌, ◌*◌, ◌<◌, ◌≤◌, ◌≡◌, refl, List, [], ◌∷◌, leb}
 use Rattle.std.proofs.Common.{arith, leb-true, le-leb}
 use Rattle.std.proofs.lemmas.Bool.{lt-leb}
-use Rattle.meaning.specs.Choice.{if◌then◌else◌, either}
+use Rattle.meaning.specs.Choice.{either}
 
 -- How many of these numbers are at most another.
 abbrev pub reached : List ℕ → ℕ → ℕ

@@ -1,10 +1,9 @@
 -- Pulses and percents of a travel (01, Position). What lies past the down limit counts as at it.
 -- Assumes nothing.
-use Rattle.std.specs.Prelude.{◌≡◌, ◌⊎◌, ℕ, ◌+◌, ◌*◌, ◌<◌, ◌≤◌, leb}
+use Rattle.std.specs.Prelude.{if◌then◌else◌, ◌≡◌, ◌⊎◌, ℕ, ◌+◌, ◌*◌, ◌<◌, ◌≤◌, leb}
 use Rattle.std.proofs.Common.{ap, inl, inr, mul-le-mul_right, eq-or-lt_of_le, le-leb}
 use native.Mathlib.Omega.{arith}
 use Rattle.std.proofs.lemmas.Bool.{lt-leb}
-use Rattle.meaning.specs.Choice.{if◌then◌else◌}
 use Rattle.travel.specs.declared.Percent.{Percent}
 use Rattle.travel.specs.declared.Pulse.{Pulse}
 use Rattle.travel.specs.Arms.{by_arms}

@@ -1,9 +1,8 @@
 -- The percents of IPs that share the travel evenly (01, SET_MOTOR_IP, function 4).
 -- Assumes nothing.
-use Rattle.std.specs.Prelude.{◌≡◌, ℕ, ◌+◌, ◌*◌, ◌/◌, ◌<◌, ◌≤◌, leb}
+use Rattle.std.specs.Prelude.{if◌then◌else◌, ◌≡◌, ℕ, ◌+◌, ◌*◌, ◌/◌, ◌<◌, ◌≤◌, leb}
 use Rattle.std.proofs.Common.{div-lt_iff_lt-mul, le-div_iff_mul-le, div-mul-le_self, arith, le-leb}
 use Rattle.std.proofs.lemmas.Bool.{lt-leb}
-use Rattle.meaning.specs.Choice.{if◌then◌else◌}
 use Rattle.travel.specs.declared.IpIndex.{IpIndex}
 use Rattle.travel.specs.declared.Percent.{Percent}
 use Rattle.travel.specs.Units.{percent, ip}

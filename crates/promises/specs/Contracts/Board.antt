@@ -1,9 +1,8 @@
 -- The contracts of `board`: its settings, the whole state, events and the group table; the motor, the IPs and the lock
 -- have files of their own.
 -- Assumes nothing.
-use Rattle.std.specs.Prelude.{◌≡◌, ◌&&◌, [], ◌∷◌, map, leb, replicate}
+use Rattle.std.specs.Prelude.{if◌then◌else◌, ◌≡◌, ◌&&◌, [], ◌∷◌, map, leb, replicate}
 use mir.Syntax.{ty_int, ty_array, tnil, tcons, w8, w32}
-use Rattle.meaning.specs.Choice.{if◌then◌else◌}
 use Rattle.serial.specs.Serial.{is_origin}
 use Rattle.board.specs.{
   Label.{is_label},

@@ -1,7 +1,6 @@
 -- The contracts of `board`'s sixteen IPs.
 -- Assumes nothing.
-use Rattle.std.specs.Prelude.{◌-◌, ◌&&◌, leb, get_or, set, replicate}
-use Rattle.meaning.specs.Choice.{if◌then◌else◌}
+use Rattle.std.specs.Prelude.{if◌then◌else◌, ◌-◌, ◌&&◌, leb, get_or, set, replicate}
 use Rattle.board.specs.{
   Favourites.{shared_out, reported_ip, ips_within},
   declared.favourites.Ip.TheVariants.{Unset},

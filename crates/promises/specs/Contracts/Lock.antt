@@ -1,7 +1,6 @@
 -- The contracts of `board`'s lock.
 -- Assumes nothing.
-use Rattle.std.specs.Prelude.{Bool, true, false, leb}
-use Rattle.meaning.specs.Choice.{if◌then◌else◌}
+use Rattle.std.specs.Prelude.{if◌then◌else◌, Bool, true, false, leb}
 use Rattle.board.specs.declared.lock.Lock.{Lock}
 use Rattle.board.proofs.lock.Lock as Lock
 use Rattle.promises.specs.Contracts.Says.{Says}

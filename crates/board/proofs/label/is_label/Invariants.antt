@@ -1,7 +1,7 @@
 -- What was seen and what the characters from here on say is what all of them say.
 -- Assumes nothing.
+use Rattle.std.specs.Prelude.{if◌then◌else◌}
 use Rattle.std.proofs.Common.{◌≡◌, ◌-◌, ◌≤◌, false, drop}
-use Rattle.meaning.specs.Choice.{if◌then◌else◌}
 use Rattle.meaning.specs.Every.{every}
 use Rattle.board.specs.Label.{is_character}
 use Rattle.board.proofs.label.is_label.Given as goal

@@ -1,7 +1,7 @@
 -- What was seen and what the slots from here on say is what all of them say.
 -- Assumes nothing.
+use Rattle.std.specs.Prelude.{if◌then◌else◌}
 use Rattle.std.proofs.Common.{◌≡◌, ◌-◌, ◌≤◌, false, drop}
-use Rattle.meaning.specs.Choice.{if◌then◌else◌}
 use Rattle.board.specs.Favourites.{ips_within}
 use Rattle.board.proofs.favourites.Favourites.within.Given as goal
 
