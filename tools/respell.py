@@ -8,9 +8,10 @@ A name is the repository's own where a file of specs/ or proofs/ declares it and
 """
 import os
 import re
+import subprocess
 import sys
 
-KIT = "/opt/rattle/rattle"
+KIT = os.path.join(os.path.dirname(subprocess.run(["rt", "doc"], capture_output=True, text=True, check=True).stdout.strip()), "rattle")
 TOKEN = re.compile(r"[^\s(){}\[\];,.«»⌜⌝@\"`:|!?&<>*+=/\\]+")
 MARKS = r"(?:(?:pub|abbrev|unfoldable|pattern|axiom)\s+)*"
 DECLARED = re.compile(rf"\s*{MARKS}([^\s:(){{}}]+(?:\s+[^\s:(){{}}]+)*)\s*:(?:\s|$)")
