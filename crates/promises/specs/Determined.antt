@@ -43,8 +43,8 @@ pub record Sense : Type 0 where
   pub a_fixed_answer_is_determined : Once number_kinds.ps number_kinds.r (λ κs a x s. x ≡ number_of a.0)
   pub a_bounded_answer_is_not : ¬ Once number_kinds.ps number_kinds.r (λ κs a x s. x ≤ number_of a.0)
 
--- The lent slice of motors is proved by hand: the same of its contracts, in the program logic that they are proved in,
--- whatever it is built on.
+-- The lent slice of motors: the same of its contracts, in the program logic that they are proved in, whatever it is built
+-- on.
 pub record LentSliceDetermined : Type 2 where
   pub register :
       {M : Type 1} {𝓤 : Ura M} (𝓛 : Logic 𝓤) (mem : Memory → SProp 𝓤) (run : Routine → Fun 𝓤)

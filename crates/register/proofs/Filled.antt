@@ -2,8 +2,8 @@
 --     Turn             where such a loop stands: the places before i are at the goal, the others as they were
 --     begun, next, ended
 --                      before the first turn, one turn on, and behind the last
---     first-…, others-…    what stands at the places of `firstSet` and of `othersCleared`
---     refused-is-left, accepted-is-set
+--     first_.., others_..    what stands at the places of `first_set` and of `others_cleared`
+--     refused_is_left, accepted_is_set
 --                      a form that is refused leaves the run as it was; where one is accepted, a run whose first places are set and whose others
 --                      are cleared is what the reading leaves
 -- Assumes nothing.

@@ -1,5 +1,5 @@
--- The contracts of `register`, whose functions are proved by hand: of the source's own clauses, in the program logic
--- that they are proved in.
+-- The contracts of `register`, whose functions are lent a run of records: of the source's own clauses, in the program
+-- logic that they are proved in.
 -- Assumes nothing.
 use Rattle.std.specs.Prelude.{length}
 use seplogic.Ra.Ura.{Ura}

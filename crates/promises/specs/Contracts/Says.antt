@@ -38,7 +38,8 @@ use borrow.Fn.Kind.{ParamKind, ResultKind}
 use borrow.Fn.Kinds.{In, Out, Dens, res_t, ended_of}
 
 -- ---- memory that is lent to be changed
--- Something of this type can be changed through it: a `&mut`, and a struct, an enum or an array that has one.
+-- Something of this type can be changed through it: a `&mut`, and a struct, an enum or an array that has one. What is
+-- known by its name alone, or is a parameter, counts as such.
 abbrev mutual
   pub is_lent : Ty → Bool
   is_lent (ty_int width) = false
@@ -121,8 +122,8 @@ SaysLent {n} ps r pre post meaning left after =
     × ((x : (res_t r κs).Denot) (s : AtExit (ended_of n ps r) κs)
     → post κs a x s → (x ≡ meaning κs a) × (left κs s ≡ after κs a)))
 
--- The same for a function that is proved by hand and lent memory: of its contract, `clauses`, in the program logic that
--- it is proved in.
+-- The same for a function over a lent run of records: of its contract, `clauses`, in the program logic that it is proved
+-- in.
 abbrev pub SaysHeld :
     {M : Type 1} (𝓤 : Ura M) {E : Type 0} (T : Ended) (c : Clauses 𝓤 T)
     → ((κs : Lfts T.signature.lifetimes) → Args T.signature κs → Res T.signature κs)
