@@ -1,45 +1,22 @@
-// Frames that arrive at the board, and its group table.
-use board_room::{Shown, at_board};
-use console::{Order, Said, answer, command, plainly, refused, with_bytes};
-use node::{Answer, Turn};
+// Frames that arrive at the board.
+use board_room::BoardRoom;
+use console::{Rows, Said, first};
+use node::Turn;
 
-// A command of the board, `frame HEX` among them.
-pub fn on_bus(shown: Shown, groups: [[u8; 3]; 16], order: Order, bytes: &[u8; 4096]) -> Shown {
-    if order.command != command::FRAME {
-        return at_board(shown.node, order, bytes);
-    }
-    after_turn(node::on_frame(shown.node, groups, order.hex(bytes)))
+pub fn arrive(room: &mut BoardRoom, bundle: &[u8], rows: &mut Rows) {
+    let Some(awning) = room.awning else {
+        rows.put(Said::NoNode);
+        return;
+    };
+    let turn = node::on_frame(awning.node, awning.groups, bundle);
+    room.turn(awning, turn.node, turn.change);
+    put_answer(turn, rows);
 }
 
-// What a turn leads to.
-fn after_turn(turn: Turn) -> Shown {
-    let node = turn.node;
-    let change = turn.change;
-    Shown {
-        node,
-        change,
-        said: answered(turn),
+fn put_answer(turn: Turn, rows: &mut Rows) {
+    match turn.answer {
+        Ok(None) => rows.put(Said::Silent),
+        Ok(Some(reply)) => rows.put(Said::Reply(first(&reply.bytes, reply.count))),
+        Err(refusal) => rows.put(Said::Refused(refusal)),
     }
-}
-
-fn answered(turn: Turn) -> Said {
-    let answer = turn.answer;
-    let reply = turn.reply;
-    match answer {
-        Answer::Silent => plainly(answer::SILENT),
-        Answer::Replied => {
-            let bytes = reply.bytes;
-            with_bytes(answer::REPLY, bytes, reply.count)
-        }
-        Answer::Refused(refusal) => refused(refusal),
-    }
-}
-
-// The table after a command; that of a board just set up is fresh.
-pub fn groups_after(groups: [[u8; 3]; 16], shown: Shown) -> [[u8; 3]; 16] {
-    if shown.said.row == answer::READY {
-        return board::no_groups();
-    }
-    let change = shown.change;
-    board::apply(groups, change)
 }

@@ -13,24 +13,20 @@ use Rattle.meaning.specs.Cases.{either_way}
 use Rattle.meaning.specs.Choice.{either}
 use Rattle.travel.specs.declared.IpIndex.{IpIndex}
 use Rattle.travel.specs.declared.Pulse.{Pulse}
-use Rattle.board.specs.Drive.{halted_from, halted, moved_to, at_pulse, blocked_by, unblocked, powered_up, reached}
-use Rattle.board.specs.Favourites.{is_number, with_ip, shared_to, shared_out}
-use Rattle.board.specs.Groups.{Groups, no_groups, applied}
+use Rattle.board.specs.Drive.{halted_from, halted, moved_to, at_pulse, blocked_by, unblocked, powered_up, reached, Motion}
+use Rattle.board.specs.Favourites.{is_number, with_ip, shared_to, shared_out, Ip}
+use Rattle.board.specs.Groups.{Groups, no_groups, applied, Change}
 use Rattle.board.specs.Lock.{over_power_up}
 use Rattle.board.specs.Node.{fresh, sound, with_drive, with_favourites, with_lock, with_label}
 use Rattle.board.specs.Events.{after_pulse, after_blocked, after_cleared, after_power_up, blocks}
 use Rattle.board.specs.Typed.{Typed, SettingsTyped, TypedTable}
 use Rattle.board.specs.declared.drive.Drive.{Drive}
-use Rattle.board.specs.declared.drive.Motion.{Motion}
-use Rattle.board.specs.declared.drive.Motion.TheVariants.{Still, Running}
 use Rattle.board.specs.declared.events.After.{After}
 use Rattle.board.specs.declared.favourites.Favourites.{Favourites}
-use Rattle.board.specs.declared.favourites.Ip.{Ip}
-use Rattle.board.specs.declared.groups.Change.{Change}
-use Rattle.board.specs.declared.groups.Change.TheVariants.{Keep, Put}
 use Rattle.board.specs.declared.lock.Lock.{Lock}
 use Rattle.board.specs.declared.settings.Settings.{Settings}
 use Rattle.board.specs.declared.whole.Node.{Node}
+use Rattle.std.specs.Prelude.{Some, None}
 
 -- Direction, source and cause are a byte each.
 pub record DriveFits (d : Drive) : Type 0 where
@@ -94,8 +90,8 @@ module _ (n : Node) (t : Typed n) where
 -- The motor.
 module _ (d : Drive) (f : DriveFits d) where
   halted_from_lem : (m : Motion) → DriveFits (halted_from m d)
-  halted_from_lem Still = f
-  halted_from_lem (Running to) = record { direction_fits = f.direction_fits; source_fits = omega arith; cause_fits = omega arith }
+  halted_from_lem None = f
+  halted_from_lem (Some to) = record { direction_fits = f.direction_fits; source_fits = omega arith; cause_fits = omega arith }
 
   pub halted_fits : DriveFits (halted d)
   halted_fits = halted_from_lem d.motion
@@ -212,14 +208,14 @@ set_fits (x ∷ groups) (suc index) entry e t (suc at) place = set_fits groups i
 
 -- What a change puts is three bytes.
 abbrev pub ChangeFits : Change → Type 0
-ChangeFits Keep = Unit {0}
-ChangeFits (Put index low middle high) = (low < 256) × ((middle < 256) × (high < 256))
+ChangeFits None = Unit {0}
+ChangeFits (Some p) = (p.low < 256) × ((p.middle < 256) × (p.high < 256))
 
 pub applied_typed : (groups : Groups) (change : Change) → ChangeFits change → TypedTable groups → TypedTable (applied groups change)
-applied_typed groups Keep f t = t
-applied_typed groups (Put index low middle high) f t =
-    either TypedTable (ltb 15 index) (λ e. t)
-    (λ e. set_fits groups index (low ∷ middle ∷ high ∷ []) (three_fit low middle high f.0 f.1.0 f.1.1) t)
+applied_typed groups None f t = t
+applied_typed groups (Some p) f t =
+    either TypedTable (ltb 15 p.index) (λ e. t)
+    (λ e. set_fits groups p.index (p.low ∷ p.middle ∷ p.high ∷ []) (three_fit p.low p.middle p.high f.0 f.1.0 f.1.1) t)
 
 empty_typed : (k : ℕ) → TypedTable (replicate k (0 ∷ 0 ∷ 0 ∷ []))
 empty_typed zero at place = omega arith

@@ -1,6 +1,6 @@
 -- SOURCE is in the group table exactly when it is an entry that is not empty; and what a change leaves of the table.
 -- Assumes nothing.
-use Rattle.std.specs.Prelude.{if◌then◌else◌}
+use Rattle.std.specs.Prelude.{if◌then◌else◌, None}
 use Prim.Native.Nat.{ℕ, zero, suc, ◌<◌, suc-le-suc}
 use native.Mathlib.Omega.{arith}
 use native.Mathlib.Nat.{le_of_suc-le-suc}
@@ -13,7 +13,6 @@ use lib.Dec.{eqb}
 use lib.ListN.{length, get_or}
 use Rattle.frame.specs.declared.address.Address.{Address}
 use Rattle.board.specs.Groups.{Groups, group_of, is_entry_of, in_table, Member, applied}
-use Rattle.board.specs.declared.groups.Change.TheVariants.{Keep}
 
 -- An empty entry matches no SOURCE at all.
 pub empty_entry_matches_nothing : (entry : List ℕ) (source : Address) → (group_of entry).0 ≡ 0x000000 → is_entry_of entry source ≡ false
@@ -70,5 +69,5 @@ pub member_exactly_when : (source : Address) (groups : Groups) → Member source
 member_exactly_when source groups =
     (λ (m : Member source groups). table_has source groups m.index m.in_table_lem m.not_empty m.is_source, member_of source groups)
 
-pub silence_keeps_the_table : (g : Groups) → applied g Keep ≡ g
+pub silence_keeps_the_table : (g : Groups) → applied g None ≡ g
 silence_keeps_the_table g = refl

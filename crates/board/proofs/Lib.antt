@@ -7,3 +7,4 @@ pub mod Refusals
 pub mod Determined
 pub mod GroupTable
 pub mod Fitting
+pub mod Folds

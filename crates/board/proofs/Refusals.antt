@@ -12,11 +12,11 @@ use Rattle.board.specs.Node.{with_drive, with_lock}
 use Rattle.board.specs.Events.{pulse_table, after_pulse, blocked_table, after_blocked, broken_table, after_cleared, after_power_up, done, refused_by}
 use Rattle.board.specs.declared.whole.Node.{Node}
 use Rattle.board.specs.declared.events.After.{After}
-use Rattle.board.specs.declared.events.Verdict.TheVariants.{Refused}
+use Rattle.std.specs.Prelude.{Err}
 
 -- Refused, it gives back this very node; done, the verdict says so.
 abbrev Unchanged : Node → After → Type 0
-Unchanged n a = (r : Refusal) → a.verdict ≡ Refused r → a ≡ refused_by n r
+Unchanged n a = (r : Refusal) → a.verdict ≡ Err r → a ≡ refused_by n r
 
 module _ (n : Node) where
   refused_as : (q : Refusal) → Unchanged n (refused_by n q)

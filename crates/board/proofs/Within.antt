@@ -14,15 +14,11 @@ use Rattle.travel.specs.Share.{share_of}
 use Rattle.travel.specs.Units.{ip}
 use Rattle.travel.specs.declared.IpIndex.{IpIndex}
 use Rattle.travel.specs.declared.Pulse.{Pulse}
-use Rattle.board.specs.Drive.{moved_to, halted_from, halted, reached, at_pulse, blocked_by, unblocked, powered_up, motion_within, drive_within}
-use Rattle.board.specs.Favourites.{slot, is_number, ip_at, with_ip, shared_ip, shared_to, shared_out, no_favourites, ip_within, ips_within}
+use Rattle.board.specs.Drive.{moved_to, halted_from, halted, reached, at_pulse, blocked_by, unblocked, powered_up, motion_within, drive_within, Motion}
+use Rattle.board.specs.Favourites.{is_number, ip_at, with_ip, shared_ip, shared_to, shared_out, no_favourites, ip_within, ips_within, Ip}
 use Rattle.board.specs.declared.drive.Drive.{Drive}
-use Rattle.board.specs.declared.drive.Motion.{Motion}
-use Rattle.board.specs.declared.drive.Motion.TheVariants.{Still, Running}
 use Rattle.board.specs.declared.favourites.Favourites.{Favourites}
-use Rattle.board.specs.declared.favourites.Ip.{Ip}
-use Rattle.board.specs.declared.favourites.Ip.TheVariants.{Unset}
-use Rattle.board.specs.declared.favourites.Slot.{Slot}
+use Rattle.std.specs.Prelude.{Some, None}
 
 -- The motor.
 module _ (travel : Pulse) (d : Drive) (w : drive_within travel d ≡ true) where
@@ -42,8 +38,8 @@ module _ (travel : Pulse) (d : Drive) (w : drive_within travel d ≡ true) where
       (λ e. and_so (leb d.position.0 travel.0) (leb to.0 travel.0) stands (le-leb to.0 travel.0 h))
 
   halted_from_lem : (m : Motion) → drive_within travel (halted_from m d) ≡ true
-  halted_from_lem Still = w
-  halted_from_lem (Running to) = and_so (leb d.position.0 travel.0) true stands refl
+  halted_from_lem None = w
+  halted_from_lem (Some to) = and_so (leb d.position.0 travel.0) true stands refl
 
   pub halted_within : drive_within travel (halted d) ≡ true
   halted_within = halted_from_lem d.motion
@@ -69,26 +65,26 @@ module _ (travel : Pulse) where
   unfolding ips_within
   none_within = refl
 
-  at_within : (l : List Slot) (i : ℕ) → ips_within travel l ≡ true → ip_within travel (get_or l i (slot Unset)).ip ≡ true
+  at_within : (l : List Ip) (i : ℕ) → ips_within travel l ≡ true → ip_within travel (get_or l i None) ≡ true
   unfolding ips_within
   at_within [] i w = refl
-  at_within (s ∷ l) zero w = (both (ip_within travel s.ip) (ips_within travel l) w).0
-  at_within (s ∷ l) (suc i) w = at_within l i (both (ip_within travel s.ip) (ips_within travel l) w).1
+  at_within (s ∷ l) zero w = (both (ip_within travel s) (ips_within travel l) w).0
+  at_within (s ∷ l) (suc i) w = at_within l i (both (ip_within travel s) (ips_within travel l) w).1
 
-  set_within : (l : List Slot) (i : ℕ) (x : Ip) → ip_within travel x ≡ true → ips_within travel l ≡ true → ips_within travel (set l i (slot x)) ≡ true
+  set_within : (l : List Ip) (i : ℕ) (x : Ip) → ip_within travel x ≡ true → ips_within travel l ≡ true → ips_within travel (set l i x) ≡ true
   unfolding ips_within
   set_within [] i x e w = refl
-  set_within (s ∷ l) zero x e w = and_so (ip_within travel x) (ips_within travel l) e (both (ip_within travel s.ip) (ips_within travel l) w).1
+  set_within (s ∷ l) zero x e w = and_so (ip_within travel x) (ips_within travel l) e (both (ip_within travel s) (ips_within travel l) w).1
   set_within (s ∷ l) (suc i) x e w =
-      let b = both (ip_within travel s.ip) (ips_within travel l) w in
-      and_so (ip_within travel s.ip) (ips_within travel (set l i (slot x))) b.0 (set_within l i x e b.1)
+      let b = both (ip_within travel s) (ips_within travel l) w in
+      and_so (ip_within travel s) (ips_within travel (set l i x)) b.0 (set_within l i x e b.1)
 
-  joined_within : (l m : List Slot) → ips_within travel l ≡ true → ips_within travel m ≡ true → ips_within travel (l ++ m) ≡ true
+  joined_within : (l m : List Ip) → ips_within travel l ≡ true → ips_within travel m ≡ true → ips_within travel (l ++ m) ≡ true
   unfolding ips_within
   joined_within [] m v w = w
   joined_within (s ∷ l) m v w =
-      let b = both (ip_within travel s.ip) (ips_within travel l) v in
-      and_so (ip_within travel s.ip) (ips_within travel (l ++ m)) b.0 (joined_within l m b.1 w)
+      let b = both (ip_within travel s) (ips_within travel l) v in
+      and_so (ip_within travel s) (ips_within travel (l ++ m)) b.0 (joined_within l m b.1 w)
 
   share_within : (n : ℕ) (i : IpIndex) → ip_within travel (shared_ip n travel i) ≡ true
   share_within n i =
@@ -96,16 +92,16 @@ module _ (travel : Pulse) where
       (λ e. le-leb (pulse_of_percent (share_of i n) travel).0 travel.0 (pulse_at_most_travel (share_of i n) travel))
       (λ e. refl)
 
-  one_within : (s : Slot) → ip_within travel s.ip ≡ true → ips_within travel (s ∷ []) ≡ true
+  one_within : (s : Ip) → ip_within travel s ≡ true → ips_within travel (s ∷ []) ≡ true
   unfolding ips_within
-  one_within s e = and_so (ip_within travel s.ip) true e refl
+  one_within s e = and_so (ip_within travel s) true e refl
 
   shares_within : (n k : ℕ) → ips_within travel (shared_to n travel k) ≡ true
   unfolding ips_within shared_to
   shares_within n zero = refl
   shares_within n (suc k) =
-      joined_within (shared_to n travel k) (slot (shared_ip n travel (ip (suc k))) ∷ []) (shares_within n k)
-      (one_within (slot (shared_ip n travel (ip (suc k)))) (share_within n (ip (suc k))))
+      joined_within (shared_to n travel k) (shared_ip n travel (ip (suc k)) ∷ []) (shares_within n k)
+      (one_within (shared_ip n travel (ip (suc k))) (share_within n (ip (suc k))))
 
   pub shared_within : (n : ℕ) → ips_within travel (shared_out n travel).slots ≡ true
   shared_within n = shares_within n 16

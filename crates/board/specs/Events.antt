@@ -1,6 +1,6 @@
 -- Set-up and events (document 01, rows 30 to 33, "Events"). A refusal gives back the node as it was.
 -- Assumes nothing.
-use Rattle.std.specs.Prelude.{ℕ, Bool, ◌||◌, List, [], ◌∷◌, eqb}
+use Rattle.std.specs.Prelude.{ℕ, Bool, ◌||◌, List, [], ◌∷◌, eqb, Result, Ok, Err}
 use Rattle.meaning.specs.Tables.{Row, ◌when◌, decide}
 use Rattle.meaning.specs.Tests.{fails, ◌above◌}
 use Rattle.refusal.specs.declared.Refusal.{Refusal}
@@ -12,13 +12,16 @@ use Rattle.board.specs.Node.{fresh, sound, with_drive, with_lock}
 use Rattle.board.specs.declared.settings.Settings.{Settings}
 use Rattle.board.specs.declared.whole.Node.{Node}
 use Rattle.board.specs.declared.events.After.{After}
-use Rattle.board.specs.declared.events.Verdict.TheVariants.{Done, Refused}
+
+-- What an event answers: done, or a refusal.
+abbrev pub Verdict : Type 0
+Verdict = Result (Unit {0}) Refusal
 
 abbrev pub done : Node → After
-done n = record { node = n; verdict = Done }
+done n = record { node = n; verdict = Ok tt }
 
 abbrev pub refused_by : Node → Refusal → After
-refused_by n r = record { node = n; verdict = Refused r }
+refused_by n r = record { node = n; verdict = Err r }
 
 -- Row 32.
 abbrev pub set_up_table : Settings → List (Row After)

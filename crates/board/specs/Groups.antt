@@ -1,10 +1,9 @@
 -- The group table (document 01, "Is the frame for this node?"): sixteen entries of three bytes each.
 -- Assumes nothing.
-use Rattle.std.specs.Prelude.{if◌then◌else◌, ℕ, ◌<◌, ◌≡◌, ◌≢◌, Bool, true, false, List, [], ◌∷◌, eqb, ltb, length, get_or, set, replicate}
+use Rattle.std.specs.Prelude.{if◌then◌else◌, ℕ, ◌<◌, ◌≡◌, ◌≢◌, Bool, true, false, List, [], ◌∷◌, eqb, ltb, length, get_or, set, replicate, Option, Some, None}
 use Rattle.frame.specs.Address.{address_of}
 use Rattle.frame.specs.declared.address.Address.{Address}
-use Rattle.board.specs.declared.groups.Change.{Change}
-use Rattle.board.specs.declared.groups.Change.TheVariants.{Keep, Put}
+use Rattle.board.specs.declared.groups.Put.{Put}
 
 abbrev pub Groups : Type 0
 Groups = List (List ℕ)
@@ -31,7 +30,14 @@ pub record Member (source : Address) (groups : Groups) : Type 0 where
   pub not_empty : (group_of (get_or groups index [])).0 ≢ 0x000000
   pub is_source : (group_of (get_or groups index [])).0 ≡ source.0
 
+abbrev pub put : (index low middle high : ℕ) → Put
+put index low middle high = record { index = index; low = low; middle = middle; high = high }
+
+-- What happens to the table in a turn: nothing, or 51h puts an entry.
+abbrev pub Change : Type 0
+Change = Option Put
+
 -- The table after a turn: one entry is changed by 51h.
 abbrev pub applied : Groups → Change → Groups
-applied groups Keep = groups
-applied groups (Put index low middle high) = if ltb 15 index then groups else set groups index (low ∷ middle ∷ high ∷ [])
+applied groups None = groups
+applied groups (Some p) = if ltb 15 p.index then groups else set groups p.index (p.low ∷ p.middle ∷ p.high ∷ [])

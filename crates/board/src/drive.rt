@@ -1,21 +1,16 @@
 // The motor: where it stands, whether it runs, and why it last started or stopped.
 ghost use Rattle.std.specs.Prelude.{◌≡◌};
-ghost use Rattle.board.specs.Drive.{fresh_drive, moved_to, halted, at_pulse, blocked_by, unblocked, powered_up, drive_within, motion_within, reached, is_running};
+ghost use Rattle.board.specs.Drive.{fresh_drive, moved_to, halted, at_pulse, blocked_by, unblocked, powered_up, drive_within, reached, is_running};
 
 use travel::Pulse;
 
 #[derive(Clone, Copy)]
-pub enum Motion {
-    Still,
-    // Running to a pulse; a target is held only while running.
-    Running(Pulse),
-}
-
-#[derive(Clone, Copy)]
 pub struct Drive {
     pub position: Pulse,
-    pub motion: Motion,
+    // The pulse that it runs to, none where it stands: a target is held only while running.
+    pub motion: Option<Pulse>,
     // The last movement's: 0 down, 1 up, FFh unknown.
+    // Stays: this and the two below are bytes: row 33 lets any pass (`Typed`), and 0Fh tells them (`status_is_told`).
     pub direction: u8,
     pub source: u8,
     pub cause: u8,
@@ -29,7 +24,7 @@ impl Drive {
     {
         Drive {
             position: Pulse(0),
-            motion: Motion::Still,
+            motion: None,
             direction: 0xFF,
             source: 0,
             cause: 0xFF,
@@ -41,34 +36,21 @@ impl Drive {
     pub fn moved_to(self, target: Pulse) -> Drive
         ensures { result ≡ moved_to self target }
     {
-        let position = self.position;
-        if position.0 == target.0 {
+        if self.position == target {
             return Drive {
-                position,
-                motion: Motion::Still,
-                direction: self.direction,
+                motion: None,
                 source: 0,
                 cause: 0,
-                blocked: self.blocked,
+                ..self
             };
         }
-        if position.0 < target.0 {
-            return Drive {
-                position,
-                motion: Motion::Running(target),
-                direction: 0,
-                source: 1,
-                cause: 1,
-                blocked: self.blocked,
-            };
-        }
+        let direction = if self.position < target { 0 } else { 1 };
         Drive {
-            position,
-            motion: Motion::Running(target),
-            direction: 1,
+            motion: Some(target),
+            direction,
             source: 1,
             cause: 1,
-            blocked: self.blocked,
+            ..self
         }
     }
 
@@ -76,57 +58,39 @@ impl Drive {
     pub fn halted(self) -> Drive
         ensures { result ≡ halted self }
     {
-        let position = self.position;
-        let motion = self.motion;
-        match motion {
-            Motion::Still => self,
-            Motion::Running(_) => Drive {
-                position,
-                motion: Motion::Still,
-                direction: self.direction,
-                source: 1,
-                cause: 1,
-                blocked: self.blocked,
-            },
+        if self.motion.is_none() {
+            return self;
+        }
+        Drive {
+            motion: None,
+            source: 1,
+            cause: 1,
+            ..self
         }
     }
 
     // The motor has come to a pulse, and stops there if it has reached its target.
-    pub fn at_pulse(self, pulse: Pulse) -> Drive
+    pub fn at_pulse(mut self, pulse: Pulse) -> Drive
         ensures { result ≡ at_pulse self pulse }
     {
-        let motion = self.motion;
-        if reached(motion, self.direction, pulse) {
-            return Drive {
-                position: pulse,
-                motion: Motion::Still,
-                direction: self.direction,
-                source: 0,
-                cause: 0,
-                blocked: self.blocked,
-            };
+        if reached(self.motion, self.direction, pulse) {
+            self.motion = None;
+            self.source = 0;
+            self.cause = 0;
         }
-        Drive {
-            position: pulse,
-            motion,
-            direction: self.direction,
-            source: self.source,
-            cause: self.cause,
-            blocked: self.blocked,
-        }
+        self.position = pulse;
+        self
     }
 
     pub fn blocked_by(self, cause: u8) -> Drive
         ensures { result ≡ blocked_by self cause }
     {
-        let position = self.position;
         Drive {
-            position,
-            motion: Motion::Still,
-            direction: self.direction,
+            motion: None,
             source: 0,
             cause,
             blocked: true,
+            ..self
         }
     }
 
@@ -140,59 +104,38 @@ impl Drive {
     pub fn powered_up(self) -> Drive
         ensures { result ≡ powered_up self }
     {
-        let position = self.position;
         Drive {
-            position,
-            motion: Motion::Still,
+            motion: None,
             direction: 0xFF,
             source: 0,
             cause: 0xFF,
             blocked: false,
+            ..self
         }
     }
 
     pub fn is_running(self) -> bool
         ensures { result ≡ is_running self.motion }
     {
-        let motion = self.motion;
-        match motion {
-            Motion::Still => false,
-            Motion::Running(_) => true,
-        }
+        self.motion.is_some()
     }
 
     // Neither the position nor a target lies beyond the travel.
     pub fn within(self, travel: Pulse) -> bool
         ensures { result ≡ drive_within travel self }
     {
-        if self.position.0 > travel.0 {
-            return false;
-        }
-        let motion = self.motion;
-        motion_within(motion, travel)
-    }
-}
-
-fn motion_within(motion: Motion, travel: Pulse) -> bool
-    ensures { result ≡ motion_within travel motion }
-{
-    match motion {
-        Motion::Still => true,
-        Motion::Running(target) => target.0 <= travel.0,
+        self.position <= travel && self.motion.is_none_or(|target| target <= travel)
     }
 }
 
 // A pulse at the target of a running motor or past it, in the direction of the movement.
-fn reached(motion: Motion, direction: u8, pulse: Pulse) -> bool
+fn reached(motion: Option<Pulse>, direction: u8, pulse: Pulse) -> bool
     ensures { result ≡ reached motion direction pulse }
 {
-    match motion {
-        Motion::Still => false,
-        Motion::Running(target) => {
-            if direction == 1 {
-                return pulse.0 <= target.0;
-            }
-            pulse.0 >= target.0
-        }
+    let Some(target) = motion else { return false };
+    if direction == 1 {
+        pulse <= target
+    } else {
+        pulse >= target
     }
 }

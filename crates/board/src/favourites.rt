@@ -5,89 +5,65 @@ ghost use Rattle.board.specs.Favourites.{ip_at, with_ip, shared_out, shared_ip, 
 use travel::{IpIndex, Pulse, pulse_of_percent, share_of};
 
 #[derive(Clone, Copy)]
-pub enum Ip {
-    Unset,
-    At(Pulse),
-}
-
-#[derive(Clone, Copy)]
-pub struct Slot {
-    pub ip: Ip,
-}
-
-#[derive(Clone, Copy)]
 pub struct Favourites {
-    // IP 1 first.
-    pub slots: [Slot; 16],
+    // IP 1 first; none where it is not set.
+    pub slots: [Option<Pulse>; 16],
 }
 
 impl Favourites {
     pub fn none() -> Favourites
         ensures { result ≡ no_favourites }
     {
-        Favourites {
-            slots: [Slot { ip: Ip::Unset }; 16],
-        }
+        Favourites { slots: [None; 16] }
     }
 
     // An IP by its number; none but 1 to 16 is ever set.
-    pub fn ip_at(self, index: IpIndex) -> Ip
+    pub fn ip_at(self, index: IpIndex) -> Option<Pulse>
         ensures { result ≡ ip_at self index }
     {
-        if index.0 < 1 {
-            return Ip::Unset;
+        if !(1..=16).contains(&index.0) {
+            return None;
         }
-        if index.0 > 16 {
-            return Ip::Unset;
-        }
-        let place = (index.0 - 1) as usize;
-        let slot = self.slots[place];
-        slot.ip
+        let place = usize::from(index.0) - 1;
+        self.slots[place]
     }
 
     // One IP set or deleted; a number that is none of 1 to 16 changes nothing.
-    pub fn with_ip(mut self, index: IpIndex, ip: Ip) -> Favourites
+    pub fn with_ip(mut self, index: IpIndex, ip: Option<Pulse>) -> Favourites
         ensures { result ≡ with_ip self index ip }
     {
-        if index.0 < 1 {
-            return self;
+        if (1..=16).contains(&index.0) {
+            self.slots[usize::from(index.0) - 1] = ip;
         }
-        if index.0 > 16 {
-            return self;
-        }
-        let place = (index.0 - 1) as usize;
-        self.slots[place] = Slot { ip };
         self
     }
 
     // SET_MOTOR_IP, function 4: IPs 1 to n share the travel, the rest become unset.
+    // Stays: tried as `array::from_fn`, and the proof did not close: the search fails at its sixteen elements.
+    #[tactic(auto, unfolding(crate::specs::Favourites::shared_to))]
     pub fn shared_out(n: u8, travel: Pulse) -> Favourites
         ensures { result ≡ shared_out n travel }
     {
-        let mut slots = [Slot { ip: Ip::Unset }; 16];
-        let mut number: u8 = 0;
-        while number < 16 {
-            let place = number as usize;
-            number += 1;
-            let ip = shared_ip(IpIndex(number), n, travel);
-            slots[place] = Slot { ip };
+        let mut slots = [None; 16];
+        for place in 0..16 {
+            slots[usize::from(place)] = shared_ip(IpIndex(place + 1), n, travel);
         }
         Favourites { slots }
     }
 
     // The number of the first IP whose pulse equals the position, else FFh.
+    #[tactic(auto, unfolding(crate::specs::Favourites::first_at))]
     pub fn reported_ip(self, position: Pulse) -> u8
         ensures { result ≡ reported_ip self position }
     {
         let mut number: u8 = 0;
+        // Stays: document 01 names this form, a loop that breaks with the index; FFh is the contract's number.
         let found = loop {
             if number == 16 {
                 break 0xFF;
             }
-            let place = number as usize;
+            let ip = self.slots[usize::from(number)];
             number += 1;
-            let slot = self.slots[place];
-            let ip = slot.ip;
             if is_at(ip, position) {
                 break number;
             }
@@ -95,47 +71,34 @@ impl Favourites {
         found
     }
 
-    // No IP lies beyond the travel; every one is looked at, so that several can be at once.
+    // No IP lies beyond the travel.
+    // Stays: `all` would stop at the first beyond; without that exit it is vector instructions (docs/SPEED.md).
     pub fn within(self, travel: Pulse) -> bool
         ensures { result ≡ ips_within travel self.slots }
     {
-        let mut within = true;
-        let mut place = 0;
-        while place < 16 {
-            let slot = self.slots[place];
-            let ip = slot.ip;
-            if !ip_within(ip, travel) {
-                within = false;
-            }
-            place += 1;
-        }
-        within
+        self.slots
+            .iter()
+            .fold(true, |within, ip| within & ip_within(*ip, travel))
     }
 }
 
-fn shared_ip(index: IpIndex, n: u8, travel: Pulse) -> Ip
+fn shared_ip(index: IpIndex, n: u8, travel: Pulse) -> Option<Pulse>
     ensures { result ≡ shared_ip n travel index }
 {
     if index.0 <= n {
-        return Ip::At(pulse_of_percent(share_of(index, n), travel));
+        return Some(pulse_of_percent(share_of(index, n), travel));
     }
-    Ip::Unset
+    None
 }
 
-fn is_at(ip: Ip, position: Pulse) -> bool
+fn is_at(ip: Option<Pulse>, position: Pulse) -> bool
     ensures { result ≡ is_at ip position }
 {
-    match ip {
-        Ip::Unset => false,
-        Ip::At(pulse) => pulse.0 == position.0,
-    }
+    ip == Some(position)
 }
 
-fn ip_within(ip: Ip, travel: Pulse) -> bool
+fn ip_within(ip: Option<Pulse>, travel: Pulse) -> bool
     ensures { result ≡ ip_within travel ip }
 {
-    match ip {
-        Ip::Unset => true,
-        Ip::At(pulse) => pulse.0 <= travel.0,
-    }
+    ip.is_none_or(|pulse| pulse <= travel)
 }

@@ -12,10 +12,10 @@ mod plate;
 mod settings;
 mod whole;
 
-pub use drive::{Drive, Motion};
-pub use events::{After, Verdict, at_pulse, blocked, cleared, power_up, set_up};
-pub use favourites::{Favourites, Ip, Slot};
-pub use groups::{Change, apply, in_table, no_groups};
+pub use drive::Drive;
+pub use events::{After, at_pulse, blocked, cleared, power_up, set_up};
+pub use favourites::Favourites;
+pub use groups::{Put, apply, in_table, no_groups};
 pub use label::{blank_label, is_label};
 pub use lock::Lock;
 pub use plate::Plate;

@@ -7,6 +7,7 @@ use frame::Address;
 #[derive(Clone, Copy)]
 pub struct Lock {
     // SOURCE of the lock in force.
+    // Stays: row 33 takes any holder and priority of an unlocked node too, and 36h tells them (`the_lock_is_told`).
     pub holder: Address,
     pub locked: bool,
     pub priority: u8,
@@ -30,10 +31,7 @@ impl Lock {
     pub fn admits(self, priority: u8) -> bool
         ensures { result ≡ admits self priority }
     {
-        if self.locked {
-            return priority >= self.priority;
-        }
-        true
+        !self.locked || priority >= self.priority
     }
 
     pub fn locked(self, source: Address, priority: u8) -> Lock
@@ -43,7 +41,7 @@ impl Lock {
             locked: true,
             holder: source,
             priority,
-            saved: self.saved,
+            ..self
         }
     }
 
@@ -54,24 +52,20 @@ impl Lock {
             locked: false,
             holder: Address(0),
             priority: 0,
-            saved: self.saved,
+            ..self
         }
     }
 
-    pub fn saving(mut self, saved: bool) -> Lock
+    pub fn saving(self, saved: bool) -> Lock
         ensures { result ≡ saving self saved }
     {
-        self.saved = saved;
-        self
+        Lock { saved, ..self }
     }
 
     // Dropped and zeroed unless saved.
     pub fn over_power_up(self) -> Lock
         ensures { result ≡ over_power_up self }
     {
-        if self.saved {
-            return self;
-        }
-        Lock::none()
+        if self.saved { self } else { Lock::none() }
     }
 }

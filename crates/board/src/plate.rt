@@ -15,20 +15,18 @@ pub struct Plate {
 }
 
 impl Plate {
+    // The plate of a board that is set up without one.
+    pub const PLAIN: Plate = Plate {
+        reference: 0,
+        letter: b'A',
+        number: 0,
+        origin: *b"AA0001",
+    };
+
     // Row 32's ranges; the number may be any byte.
     pub fn in_range(self) -> bool
         ensures { result ≡ plate_in_range self }
     {
-        if self.reference > 0xFF_FFFF {
-            return false;
-        }
-        if self.letter < 0x41 {
-            return false;
-        }
-        if self.letter > 0x5A {
-            return false;
-        }
-        let origin = self.origin;
-        is_origin(origin)
+        self.reference <= 0xFF_FFFF && matches!(self.letter, b'A'..=b'Z') && is_origin(self.origin)
     }
 }

@@ -22,18 +22,9 @@ impl Settings {
     pub fn in_range(self) -> bool
         ensures { result ≡ in_range self }
     {
-        if !self.id.is_node_id() {
-            return false;
-        }
-        if self.kind < 1 {
-            return false;
-        }
-        if self.kind > 15 {
-            return false;
-        }
-        if self.travel.0 < 100 {
-            return false;
-        }
-        self.plate.in_range()
+        self.id.is_node_id()
+            && matches!(self.kind, 1..=15)
+            && self.travel.0 >= 100
+            && self.plate.in_range()
     }
 }

@@ -23,16 +23,12 @@ impl Node {
     pub fn fresh(settings: Settings) -> Node
         ensures { result ≡ fresh settings }
     {
-        let drive = Drive::fresh();
-        let favourites = Favourites::none();
-        let lock = Lock::none();
-        let label = blank_label();
         Node {
             settings,
-            drive,
-            favourites,
-            lock,
-            label,
+            drive: Drive::fresh(),
+            favourites: Favourites::none(),
+            lock: Lock::none(),
+            label: blank_label(),
         }
     }
 
@@ -40,37 +36,29 @@ impl Node {
     pub fn is_sound(self) -> bool
         ensures { result ≡ sound self }
     {
-        if !self.settings.in_range() {
-            return false;
-        }
-        if !self.drive.within(self.settings.travel) {
-            return false;
-        }
-        if !self.favourites.within(self.settings.travel) {
-            return false;
-        }
-        if self.lock.holder.0 > 0xFF_FFFF {
-            return false;
-        }
-        let label = self.label;
-        is_label(label)
+        self.settings.in_range()
+            && self.drive.within(self.settings.travel)
+            && self.favourites.within(self.settings.travel)
+            && self.lock.holder.0 <= 0xFF_FFFF
+            && is_label(self.label)
     }
 
+    // Stays: a number, since `status_of` of the contract is one, and `status_is_told` puts it on the wire.
     pub fn status(self) -> u8
         ensures { result ≡ status_of self }
     {
         if self.lock.locked {
-            return 3;
+            3
+        } else if self.drive.blocked {
+            2
+        } else if self.drive.is_running() {
+            1
+        } else {
+            0
         }
-        if self.drive.blocked {
-            return 2;
-        }
-        if self.drive.is_running() {
-            return 1;
-        }
-        0
     }
 
+    // Stays: four functions, each a fact of its own in promises/specs/Contracts, and no parameter can name a field.
     pub fn with_drive(mut self, drive: Drive) -> Node
         ensures { result ≡ with_drive self drive }
     {

@@ -1,118 +1,87 @@
 // The board's commands.
-use crate::state::put_state;
-use board::{After, Change, Node, Plate, Settings, Verdict};
-use console::{Order, Said, answer, command, plainly, put_said, refused};
-use frame::Address;
-use travel::Pulse;
+ghost use Rattle.std.specs.Prelude.{◌≡◌, length, take, Some, IsErr};
+ghost use Rattle.board.specs.Events.{set_up};
+ghost use Rattle.board.specs.Groups.{applied};
+ghost use Rattle.board_room.specs.Event.{after_event};
 
-// The board after a command, its change of the group table, and the answer.
-#[derive(Clone, Copy)]
-pub struct Shown {
-    pub node: Node,
-    pub change: Change,
-    pub said: Said,
+use crate::state::Awning;
+use board::{After, Node, Put, Settings};
+use console::{BoardCommand, Event, Rows, Said};
+use refusal::Refusal;
+
+// The board on the bench; a fresh start has none.
+#[derive(Clone, Copy, Default)]
+pub struct BoardRoom {
+    pub awning: Option<Awning>,
 }
 
-// A fresh start has a board with settings that row 32 refuses.
-pub fn no_board() -> Shown {
-    let settings = Settings {
-        id: Address(0),
-        kind: 0,
-        travel: Pulse(0),
-        plate: plain(),
-    };
-    unchanged(Node::fresh(settings), plainly(answer::NO_ROW))
-}
+impl BoardRoom {
+    // A command of the board but `frame`.
+    pub fn obey(&mut self, command: BoardCommand, rows: &mut Rows)
+        ensures state { command ≡ BoardCommand.State → self.new ≡ self.old }
+        ensures refused_set_up { (s : Settings) → command ≡ BoardCommand.SetUp s → IsErr (set_up s).verdict → self.new ≡ self.old }
+        ensures refused_event { (e : Event) (a : Awning) → command ≡ BoardCommand.Event e → self.old.awning ≡ Some a → IsErr (after_event a.node e).verdict → self.new ≡ self.old }
+        ensures rows { take (length rows.old) rows.new ≡ rows.old }
+    {
+        match (command, self.awning) {
+            (BoardCommand::SetUp(settings), _) => rows.put(self.set_up(settings)),
+            (BoardCommand::Event(event), Some(awning)) => rows.put(self.after_event(awning, event)),
+            (BoardCommand::State, Some(awning)) => rows.put(awning),
+            (_, None) => rows.put(Said::NoNode),
+        }
+    }
 
-// A command of the board but `frame`, with the bytes of its HEX; any other is passed over.
-pub fn at_board(node: Node, order: Order, bytes: &[u8; 4096]) -> Shown {
-    let command = order.command;
-    match command {
-        command::NODE | command::NODE_AND_PLATE => told(node, set_up(order, bytes), answer::READY),
-        command::PULSE | command::BLOCKED | command::CLEARED | command::POWER => told(
-            node,
-            after(node, order),
-            answer::DONE,
-        ),
-        _ => unchanged(node, plainly(answer::NO_ROW)),
+    // A refusal leaves the earlier board.
+    fn set_up(&mut self, settings: Settings) -> Said<'static>
+        ensures { IsErr (set_up settings).verdict → self.new ≡ self.old }
+    {
+        match outcome(board::set_up(settings)) {
+            Ok(node) => {
+                let groups = board::no_groups();
+                self.awning = Some(Awning { node, groups });
+                Said::Ready
+            }
+            Err(refusal) => Said::Refused(refusal),
+        }
+    }
+
+    // `pulse DEC`, `blocked BYTE`, `cleared`, `power`; a refused event has changed nothing.
+    fn after_event(&mut self, awning: Awning, event: Event) -> Said<'static>
+        ensures { IsErr (after_event awning.node event).verdict → self.new ≡ self.old }
+    {
+        match outcome(after(awning.node, event)) {
+            Ok(node) => {
+                self.turn(awning, node, None);
+                Said::Done
+            }
+            Err(refusal) => Said::Refused(refusal),
+        }
+    }
+
+    // The board goes on as another node, with a change of its table.
+    pub fn turn(&mut self, awning: Awning, node: Node, change: Option<Put>)
+        ensures { self.new.awning ≡ Some (record { node = node; groups = applied awning.groups change }) }
+    {
+        let groups = board::apply(awning.groups, change);
+        self.awning = Some(Awning { node, groups });
     }
 }
 
-// The group table stays as it is.
-fn unchanged(node: Node, said: Said) -> Shown {
-    Shown {
-        node,
-        change: Change::Keep,
-        said,
+#[tactic(auto, unfolding(crate::specs::Event::after_event))]
+fn after(node: Node, event: Event) -> After
+    ensures { result ≡ after_event node event }
+{
+    match event {
+        Event::Pulse(pulse) => board::at_pulse(node, pulse),
+        Event::Blocked(cause) => board::blocked(node, cause),
+        Event::Cleared => board::cleared(node),
+        Event::Power => board::power_up(node),
     }
 }
 
-// `node ID DEC DEC`
-fn set_up(order: Order, bytes: &[u8; 4096]) -> After {
-    board::set_up(Settings {
-        id: Address(order.large(0)),
-        kind: order.small(1),
-        travel: Pulse(order.medium(2)),
-        plate: plate(order, bytes),
-    })
-}
-
-// `DEC BYTE BYTE HEX` behind these, of six bytes; without them the plain plate.
-fn plate(order: Order, bytes: &[u8; 4096]) -> Plate {
-    if order.command == command::NODE {
-        return plain();
-    }
-    Plate {
-        reference: order.large(3),
-        letter: order.small(4),
-        number: order.small(5),
-        origin: origin(bytes),
-    }
-}
-
-fn origin(bytes: &[u8; 4096]) -> [u8; 6] {
-    [bytes[0], bytes[1], bytes[2], bytes[3], bytes[4], bytes[5]]
-}
-
-fn plain() -> Plate {
-    Plate {
-        reference: 0,
-        letter: b'A',
-        number: 0,
-        origin: [b'A', b'A', b'0', b'0', b'0', b'1'],
-    }
-}
-
-// `pulse DEC`, `blocked BYTE`, `cleared`, `power`
-fn after(node: Node, order: Order) -> After {
-    let command = order.command;
-    match command {
-        command::PULSE => board::at_pulse(node, Pulse(order.medium(0))),
-        command::BLOCKED => board::blocked(node, order.small(0)),
-        command::CLEARED => board::cleared(node),
-        _ => board::power_up(node),
-    }
-}
-
-// A refusal leaves the earlier board.
-fn told(node: Node, after: After, row: usize) -> Shown {
-    let verdict = after.verdict;
-    match verdict {
-        Verdict::Done => unchanged(after.node, plainly(row)),
-        Verdict::Refused(refusal) => unchanged(node, refused(refusal)),
-    }
-}
-
-// The answer, or the row of `state`.
-pub fn put_board(
-    shown: Shown,
-    groups: [[u8; 3]; 16],
-    order: Order,
-    out: &mut [u8; 65536],
-    at: u16,
-) -> u16 {
-    if order.command == command::STATE {
-        return put_state(shown.node, groups, out, at);
-    }
-    put_said(out, at, shown.said)
+fn outcome(after: After) -> Result<Node, Refusal>
+    ensures { IsErr after.verdict → IsErr result }
+{
+    after.verdict?;
+    Ok(after.node)
 }

@@ -4,4 +4,5 @@
 mod commands;
 mod state;
 
-pub use commands::{Shown, at_board, no_board, put_board};
+pub use commands::BoardRoom;
+pub use state::Awning;

@@ -1,92 +1,98 @@
-// The row of `state`: ten numbers of the motor and the lock, sixteen IPs, sixteen groups, the label.
-use board::{Drive, Favourites, Ip, Lock, Motion, Node};
-use console::{NONE, answer, plainly, put_row, put_said, put_text};
+// A board that is set up, and the row of `state`: the motor, the lock, sixteen IPs, sixteen groups, the label.
+use board::{Drive, Favourites, Lock, Node};
+use console::{Hex, Id, OrNone};
 use frame::Address;
+use std::fmt;
+use travel::Pulse;
 
-pub fn put_state(node: Node, groups: [[u8; 3]; 16], out: &mut [u8; 65536], at: u16) -> u16 {
-    if !node.is_sound() {
-        return put_said(out, at, plainly(answer::NO_NODE));
-    }
-    let behind = put_motor(numbers(node.drive, node.lock), out, at);
-    let behind = put_tables(pulses(node.favourites), addresses(groups), out, behind);
-    let label = node.label;
-    put_label(label, out, behind)
+// The board's state, and its group table.
+#[derive(Clone, Copy)]
+pub struct Awning {
+    pub node: Node,
+    // Stays: `node::on_frame` and `board::apply` take the table by value.
+    pub groups: [[u8; 3]; 16],
 }
 
-fn put_motor(numbers: [u32; 10], out: &mut [u8; 65536], at: u16) -> u16 {
-    put_text(
-        out,
-        at,
-        b"pulse # target - direction $ source $ cause $ blocked # lock # @ $ saved #",
-        &numbers,
-    )
-}
-
-fn put_tables(ips: [u32; 16], groups: [u32; 16], out: &mut [u8; 65536], at: u16) -> u16 {
-    let behind = put_text(out, at, b" ips - - - - - - - - - - - - - - - -", &ips);
-    put_text(
-        out,
-        behind,
-        b" groups @ @ @ @ @ @ @ @ @ @ @ @ @ @ @ @",
-        &groups,
-    )
-}
-
-fn put_label(label: [u8; 16], out: &mut [u8; 65536], at: u16) -> u16 {
-    put_row(out, at, b" label ", 0, &label)
-}
-
-fn numbers(drive: Drive, lock: Lock) -> [u32; 10] {
-    let motion = drive.motion;
-    [
-        drive.position.0 as u32,
-        target(motion),
-        drive.direction as u32,
-        drive.source as u32,
-        drive.cause as u32,
-        drive.blocked as u32,
-        lock.locked as u32,
-        lock.holder.0,
-        lock.priority as u32,
-        lock.saved as u32,
-    ]
-}
-
-fn target(motion: Motion) -> u32 {
-    match motion {
-        Motion::Still => NONE,
-        Motion::Running(target) => target.0 as u32,
+impl fmt::Display for Awning {
+    fn fmt<W: fmt::Write>(&self, f: &mut fmt::Formatter<W>) -> fmt::Result {
+        let node = self.node;
+        let motor = MotorPart(node.drive);
+        let lock = LockPart(node.lock);
+        let ips = IpsPart(node.favourites);
+        let groups = GroupsPart(self.groups);
+        let label = LabelPart(node.label);
+        write!(f, "{motor} {lock} ips{ips}")?;
+        write!(f, " groups{groups} label {label}")
     }
 }
 
-fn pulses(favourites: Favourites) -> [u32; 16] {
-    let slots = favourites.slots;
-    let mut pulses = [NONE; 16];
-    for i in 0..16 {
-        let slot = slots[i];
-        let ip = slot.ip;
-        pulses[i] = pulse(ip);
+#[derive(Clone, Copy)]
+struct MotorPart(Drive);
+
+impl fmt::Display for MotorPart {
+    fn fmt<W: fmt::Write>(&self, f: &mut fmt::Formatter<W>) -> fmt::Result {
+        let drive = self.0;
+        let pulse = drive.position.0;
+        let target = OrNone(number_of(drive.motion));
+        let direction = drive.direction;
+        let source = drive.source;
+        let cause = drive.cause;
+        let blocked = u8::from(drive.blocked);
+        write!(
+            f,
+            "pulse {pulse} target {target} direction {direction:02X} "
+        )?;
+        write!(f, "source {source:02X} cause {cause:02X} blocked {blocked}")
     }
-    pulses
 }
 
-fn pulse(ip: Ip) -> u32 {
-    match ip {
-        Ip::Unset => NONE,
-        Ip::At(pulse) => pulse.0 as u32,
+fn number_of(pulse: Option<Pulse>) -> Option<u16> {
+    pulse.map(|pulse| pulse.0)
+}
+
+#[derive(Clone, Copy)]
+struct LockPart(Lock);
+
+impl fmt::Display for LockPart {
+    fn fmt<W: fmt::Write>(&self, f: &mut fmt::Formatter<W>) -> fmt::Result {
+        let lock = self.0;
+        let locked = u8::from(lock.locked);
+        let holder = Id(lock.holder);
+        let priority = lock.priority;
+        let saved = u8::from(lock.saved);
+        write!(f, "lock {locked} {holder} {priority:02X} saved {saved}")
     }
 }
 
-fn addresses(groups: [[u8; 3]; 16]) -> [u32; 16] {
-    let mut addresses = [0; 16];
-    for i in 0..16 {
-        let entry = groups[i];
-        addresses[i] = address(entry);
+#[derive(Clone, Copy)]
+struct IpsPart(Favourites);
+
+impl fmt::Display for IpsPart {
+    fn fmt<W: fmt::Write>(&self, f: &mut fmt::Formatter<W>) -> fmt::Result {
+        for ip in &self.0.slots {
+            write!(f, " {}", OrNone(number_of(*ip)))?;
+        }
+        Ok(())
     }
-    addresses
 }
 
-fn address(entry: [u8; 3]) -> u32 {
-    let group = Address::from_bytes(entry[0], entry[1], entry[2]);
-    group.0
+#[derive(Clone, Copy)]
+struct GroupsPart([[u8; 3]; 16]);
+
+impl fmt::Display for GroupsPart {
+    fn fmt<W: fmt::Write>(&self, f: &mut fmt::Formatter<W>) -> fmt::Result {
+        for [low, middle, high] in &self.0 {
+            write!(f, " {}", Id(Address::from_bytes(*low, *middle, *high)))?;
+        }
+        Ok(())
+    }
+}
+
+#[derive(Clone, Copy)]
+struct LabelPart([u8; 16]);
+
+impl fmt::Display for LabelPart {
+    fn fmt<W: fmt::Write>(&self, f: &mut fmt::Formatter<W>) -> fmt::Result {
+        write!(f, "{}", Hex(&self.0))
+    }
 }

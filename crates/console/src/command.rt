@@ -1,163 +1,177 @@
-// Which command a line is, and the numbers of its words.
-use crate::lines::first;
-use crate::words::{MALFORMED, part, parts, value_of};
-use std::num::wrapping_add_usize;
+// Which command a line is, with the values of its words.
+ghost use Rattle.std.specs.Prelude.{◌≡◌, ◌≢◌, ◌<◌, length, slice_index, IsErr};
 
-// A command, by its place in the table, and a number for each word behind its name.
+use crate::words::{BadLine, Words};
+use board::{Plate, Settings};
+use frame::{Address, Header};
+use std::str;
+use travel::Pulse;
+
+// A command, by the part of the bench that it is for.
 #[derive(Clone, Copy)]
-pub struct Order {
-    pub command: usize,
-    pub numbers: [u32; 10],
-    // How many bytes the last word has, where it is HEX.
-    pub count: usize,
+pub enum Command<'a> {
+    // `frame HEX`
+    Frame(&'a [u8]),
+    Board(BoardCommand),
+    Register(RegisterCommand<'a>),
+    Wire(WireCommand<'a>),
+    Rts(RtsCommand<'a>),
 }
 
-pub const NODE: usize = 0;
+#[derive(Clone, Copy)]
+pub enum BoardCommand {
+    // `node ID DEC DEC`, and with a plate `DEC BYTE BYTE HEX` behind these
+    SetUp(Settings),
+    Event(Event),
+    State,
+}
 
-pub const NODE_AND_PLATE: usize = 1;
+// What the board reports from its own motor and supply.
+#[derive(Clone, Copy)]
+pub enum Event {
+    // `pulse DEC`
+    Pulse(Pulse),
+    // `blocked BYTE`
+    Blocked(u8),
+    Cleared,
+    Power,
+}
 
-pub const FRAME: usize = 2;
+#[derive(Clone, Copy)]
+pub enum RegisterCommand<'a> {
+    // `line DEC HEX`
+    Line { line: u8, bundle: &'a [u8] },
+    // `strike DEC ID`
+    Strike { line: u8, id: Address },
+    Motors,
+    Store,
+    // `load HEX`
+    Load(&'a [u8]),
+}
 
-pub const PULSE: usize = 3;
+#[derive(Clone, Copy)]
+pub enum WireCommand<'a> {
+    // `byte BYTE DEC`
+    Byte { byte: u8, silence: u16 },
+    Close,
+    // `write BYTE DEC DEC DEC DEC DEC HEX`
+    Write { header: Header, content: &'a [u8] },
+}
 
-pub const BLOCKED: usize = 4;
-
-pub const CLEARED: usize = 5;
-
-pub const POWER: usize = 6;
-
-pub const STATE: usize = 7;
-
-pub const LINE: usize = 8;
-
-pub const STRIKE: usize = 9;
-
-pub const MOTORS: usize = 10;
-
-pub const STORE: usize = 11;
-
-pub const LOAD: usize = 12;
-
-pub const BYTE: usize = 13;
-
-pub const CLOSE: usize = 14;
-
-pub const WRITE: usize = 15;
-
-pub const RTS: usize = 16;
-
-// With no field, and so on up to four.
-pub const RTS_WRITE: usize = 17;
-
-// No command, or malformed: the place behind the table.
-pub const BAD: usize = 22;
-
-// An empty line or a comment.
-const PASS: usize = 23;
+#[derive(Clone, Copy)]
+pub enum RtsCommand<'a> {
+    // `rts HEX`
+    Read(&'a [u8]),
+    // `rtswrite BYTE DEC DEC DEC DEC DEC FIELDS`: as many fields as are typed, and none behind them.
+    Write {
+        header: Header,
+        fields: [Option<u8>; 4],
+    },
+}
 
 // The longest line that is one.
 const LONGEST: usize = 8192;
 
-impl Order {
-    pub fn large(self, which: usize) -> u32 {
-        let place = which % 10;
-        self.numbers[place]
-    }
-
-    pub fn medium(self, which: usize) -> u16 {
-        (self.large(which) % 65536) as u16
-    }
-
-    pub fn small(self, which: usize) -> u8 {
-        (self.large(which) % 256) as u8
-    }
-
-    // The bytes of the last word, where it is HEX.
-    pub fn hex(self, bytes: &[u8; 4096]) -> &[u8] {
-        first(bytes, self.count)
-    }
-
-    // With one word more; a malformed one makes it a bad line.
-    fn with(mut self, which: usize, value: u64, count: usize) -> Order {
-        let place = which % 10;
-        self.numbers[place] = (value % MALFORMED) as u32;
-        self.count = count;
-        if value == MALFORMED {
-            self.command = BAD;
+impl<'a> Command<'a> {
+    // The command of a line; none where it is empty or a comment. The bytes of its HEX go into the room that is lent.
+    pub fn parse(line: &[u8], room: &'a mut [u8; 4096]) -> Result<Option<Command<'a>>, BadLine>
+        ensures empty { length line.now ≡ 0 → result ≡ Ok None }
+        ensures comment { 0 < length line.now → slice_index line.now 0 ≡ 35 → result ≡ Ok None }
+        ensures too_long { 8192 < length line.now → slice_index line.now 0 ≢ 35 → IsErr result }
+    {
+        if matches!(line.first(), None | Some(b'#')) {
+            return Ok(None);
         }
-        self
+        if line.len() > LONGEST {
+            return Err(BadLine);
+        }
+        let mut words = Words::of(str::from_utf8(line)?);
+        let command = command_of(&mut words, room)?;
+        words.end()?;
+        Ok(Some(command))
     }
 }
 
-// The bytes of the last HEX word go into the run that is lent.
-pub fn order_of(line: &[u8], bytes: &mut [u8; 4096]) -> Order {
-    let table = b"node 3sm;\
-        node 3sml116;\
-        frame 0;\
-        pulse m;\
-        blocked 1;\
-        cleared ;\
-        power ;\
-        state ;\
-        line s0;\
-        strike s3;\
-        motors ;\
-        store ;\
-        load 0;\
-        byte 1m;\
-        close ;\
-        write 1tssll0;\
-        rts 0;\
-        rtswrite 1tssll;\
-        rtswrite 1tsslls;\
-        rtswrite 1tssllss;\
-        rtswrite 1tssllsss;\
-        rtswrite 1tssllssss";
-    let command = command_of(table, line);
-    read(
-        command,
-        part(part(table, b';', command), b' ', 1),
-        line,
-        bytes,
-    )
+fn command_of<'a>(words: &mut Words<'_>, room: &'a mut [u8; 4096]) -> Result<Command<'a>, BadLine> {
+    match words.word()? {
+        "frame" => Ok(Command::Frame(words.hex(room)?)),
+        "node" => Ok(Command::Board(BoardCommand::SetUp(settings_of(words)?))),
+        "pulse" => Ok(report(Event::Pulse(Pulse(words.decimal()?)))),
+        "blocked" => Ok(report(Event::Blocked(words.byte()?))),
+        "cleared" => Ok(report(Event::Cleared)),
+        "power" => Ok(report(Event::Power)),
+        "state" => Ok(Command::Board(BoardCommand::State)),
+        "line" => Ok(Command::Register(RegisterCommand::Line {
+            line: words.decimal()?,
+            bundle: words.hex(room)?,
+        })),
+        "strike" => Ok(Command::Register(RegisterCommand::Strike {
+            line: words.decimal()?,
+            id: words.id()?,
+        })),
+        "motors" => Ok(Command::Register(RegisterCommand::Motors)),
+        "store" => Ok(Command::Register(RegisterCommand::Store)),
+        "load" => Ok(Command::Register(RegisterCommand::Load(words.hex(room)?))),
+        "byte" => Ok(Command::Wire(WireCommand::Byte {
+            byte: words.byte()?,
+            silence: words.decimal()?,
+        })),
+        "close" => Ok(Command::Wire(WireCommand::Close)),
+        "write" => Ok(Command::Wire(WireCommand::Write {
+            header: header_of(words)?,
+            content: words.hex(room)?,
+        })),
+        "rts" => Ok(Command::Rts(RtsCommand::Read(words.hex(room)?))),
+        "rtswrite" => Ok(Command::Rts(RtsCommand::Write {
+            header: header_of(words)?,
+            fields: fields_of(words)?,
+        })),
+        _ => Err(BadLine),
+    }
 }
 
-fn command_of(table: &[u8], line: &[u8]) -> usize {
-    if line.len() == 0 {
-        return PASS;
-    }
-    if line[0] == b'#' {
-        return PASS;
-    }
-    if line.len() > LONGEST {
-        return BAD;
-    }
-    row_named(table, part(line, b' ', 0), parts(line))
+fn report<'a>(event: Event) -> Command<'a> {
+    Command::Board(BoardCommand::Event(event))
 }
 
-// The row of a name and so many words, the name among them.
-fn row_named(table: &[u8], name: &[u8], words: usize) -> usize {
-    for number in 0..BAD {
-        let row = part(table, b';', number);
-        if wrapping_add_usize(part(row, b' ', 1).len(), 1) == words {
-            if part(row, b' ', 0) == name {
-                return number;
-            }
+fn settings_of(words: &mut Words<'_>) -> Result<Settings, BadLine> {
+    Ok(Settings {
+        id: words.id()?,
+        kind: words.decimal()?,
+        travel: Pulse(words.decimal()?),
+        plate: plate_of(words)?,
+    })
+}
+
+fn plate_of(words: &mut Words<'_>) -> Result<Plate, BadLine> {
+    if words.is_over() {
+        return Ok(Plate::PLAIN);
+    }
+    Ok(Plate {
+        reference: words.decimal()?,
+        letter: words.byte()?,
+        number: words.byte()?,
+        origin: words.bytes()?,
+    })
+}
+
+fn header_of(words: &mut Words<'_>) -> Result<Header, BadLine> {
+    Ok(Header {
+        message: words.byte()?,
+        ack: words.flag()?,
+        sender: words.decimal()?,
+        receiver: words.decimal()?,
+        source: Address(words.decimal()?),
+        destination: Address(words.decimal()?),
+    })
+}
+
+fn fields_of(words: &mut Words<'_>) -> Result<[Option<u8>; 4], BadLine> {
+    let mut fields = [None; 4];
+    for field in &mut fields {
+        if !words.is_over() {
+            *field = Some(words.decimal()?);
         }
     }
-    BAD
-}
-
-// Each word by its kind.
-fn read(command: usize, kinds: &[u8], line: &[u8], bytes: &mut [u8; 4096]) -> Order {
-    let mut order = Order {
-        command,
-        numbers: [0; 10],
-        count: 0,
-    };
-    for i in 0..kinds.len() {
-        let word = part(line, b' ', i + 1);
-        order = order.with(i, value_of(kinds[i], word, bytes), word.len() / 2);
-    }
-    order
+    Ok(fields)
 }

@@ -1,15 +1,15 @@
-// The text side of a console: lines out of what is read, the command that a line is, the numbers of its words, and
-// rows of text.
+// The text side of a console: lines out of what is read, the command that a line is, and rows of text.
 #![tactic(auto)]
 
-pub mod answer;
-pub mod command;
+mod command;
+mod gathered;
 mod lines;
 mod rows;
+mod said;
 mod words;
 
-pub use answer::{Said, plainly, put_said, refused, with_bytes, with_number};
-pub use command::{Order, order_of};
-pub use lines::{Input, first};
-pub use rows::{NONE, put_row, put_text};
-pub use words::part;
+pub use command::{BoardCommand, Command, Event, RegisterCommand, RtsCommand, WireCommand};
+pub use lines::{Input, Line};
+pub use rows::{Hex, Id, OrNone, Rows, first};
+pub use said::Said;
+pub use words::BadLine;

@@ -1,108 +1,143 @@
 // Lines out of what is read, a chunk at a time.
-use std::io::Read;
+ghost use Rattle.std.specs.Prelude.{◌≡◌, ◌≤◌, ◌⊎◌, [], ◌++◌, eqb, length, take};
+ghost use Rattle.console.specs.Line.{text_of};
 
-// What is read of the input: the chunk has so many bytes, none where the input is over, and is used up to a place; so
-// many bytes of the line are held.
-#[derive(Clone, Copy)]
+use crate::gathered::Gathered;
+use std::io::Read;
+use std::marker::Model;
+
+// What is read of the input: the chunk has so many bytes, none where the input is over, and is used up to a place.
+// Stays: no heap, so the chunk lies in an array with its place beside it.
+#[derive(Drop)]
 pub struct Input {
-    pub have: usize,
-    pub next: usize,
-    pub held: usize,
-    // A line feed has ended the line.
-    pub ended: bool,
+    chunk: [u8; 65536],
+    have: usize,
+    next: usize,
+    ghost within: { next ≤ have },
+    ghost fits: { have ≤ 65536 },
 }
 
 impl Input {
-    pub fn begun() -> Input {
+    pub fn new() -> Input
+        ensures used_up { result.next ≡ result.have }
+        ensures over { result.have ≡ 0 }
+    {
         Input {
+            chunk: [0; 65536],
             have: 0,
             next: 0,
-            held: 0,
-            ended: true,
         }
     }
 
-    // The next line, or as much of it as the chunk has; a chunk that is used up is read anew.
-    pub fn more(
-        mut self,
-        reader: &mut impl Read,
-        chunk: &mut [u8; 65536],
-        line: &mut [u8; 8194],
-    ) -> Input {
-        if self.next >= self.have {
-            self.have = read_some(reader, chunk);
-            self.next = 0;
+    // The next line with its line feed, or what the chunk has of it; none at the end. A chunk that is used up is read anew.
+    pub fn part(&mut self, reader: &mut impl Read) -> &[u8]
+        ensures { length result.now ≤ 65536 }
+    {
+        if self.is_used_up() {
+            self.read_some(reader);
         }
-        if self.ended {
-            self.held = 0;
+        let from = self.next;
+        self.next = from + part_length(&self.chunk[from..self.have]);
+        &self.chunk[from..self.next]
+    }
+
+    // One read; a failed one ends the input, as one of no bytes does.
+    fn read_some(&mut self, reader: &mut impl Read) {
+        let have = reader.read(&mut self.chunk).unwrap_or(0);
+        self.have = have;
+        self.next = 0;
+    }
+
+    // Every byte of the chunk is taken.
+    pub fn is_used_up(&self) -> bool
+        ensures { result ≡ eqb self.now.next self.now.have }
+    {
+        self.next == self.have
+    }
+
+    pub fn is_over(&self) -> bool
+        ensures { result ≡ eqb self.now.have 0 }
+    {
+        self.have == 0
+    }
+}
+
+// Up to behind the first line feed, or all.
+fn part_length(unread: &[u8]) -> usize
+    ensures { result ≤ length unread.now }
+{
+    unread
+        .iter()
+        .position(|byte| *byte == b'\n')
+        .map_or(unread.len(), |place| place + 1)
+}
+
+// What has ended a line: nothing as yet, where it goes on.
+#[derive(Clone, Copy, PartialEq, Eq)]
+enum End {
+    Open,
+    LineFeed,
+    Input,
+}
+
+fn text_and_end(part: &[u8]) -> (&[u8], End)
+    ensures { result.0.now ≡ text_of part.now }
+{
+    match part {
+        [] => (part, End::Input),
+        [text @ .., b'\n'] => (text, End::LineFeed),
+        _ => (part, End::Open),
+    }
+}
+
+// A line as its parts come: what is held of it.
+#[derive(Drop)]
+pub struct Line {
+    // The longest line, a carriage return and one byte more: what is longer is too long by these.
+    held: Gathered<8194>,
+    end: End,
+}
+
+impl Model for Line {
+    ghost use Rattle.std.specs.Prelude.{ℕ, List};
+
+    ghost Value = { List ℕ };
+
+    ghost view = { λ line. line.held };
+}
+
+impl Line {
+    pub fn new() -> Line
+        ensures { result ≡ [] }
+    {
+        Line {
+            held: Gathered::new(),
+            end: End::LineFeed,
         }
-        take_line(self, first(chunk, self.have), line)
+    }
+
+    // A part goes behind what is held, or begins the next line.
+    pub fn take(&mut self, part: &[u8])
+        ensures { (self.new ≡ take 8194 (text_of part.now)) ⊎ (self.new ≡ take 8194 (self.old ++ text_of part.now)) }
+    {
+        if self.end != End::Open {
+            self.held.clear();
+        }
+        let (text, end) = text_and_end(part);
+        self.held.hold(text);
+        self.end = end;
     }
 
     // The line; none, as if it was empty, where it goes on. At the end of the input it may lack its line feed.
-    pub fn text(self, line: &[u8; 8194]) -> &[u8] {
-        let held = first(line, self.held);
-        if self.ended {
-            return without_return(held);
-        }
-        if self.have > 0 {
-            return first(line, 0);
-        }
-        held
-    }
-}
-
-// One read; a failed one ends the input, as one of no bytes does.
-fn read_some(reader: &mut impl Read, chunk: &mut [u8; 65536]) -> usize {
-    reader.read(chunk).unwrap_or(0)
-}
-
-// The chunk's bytes up to the next line feed, behind what is held of the line.
-fn take_line(input: Input, chunk: &[u8], line: &mut [u8; 8194]) -> Input {
-    let mut next = input.next;
-    let mut held = input.held;
-    let mut ended = false;
-    while next < chunk.len() {
-        let byte = chunk[next];
-        next += 1;
-        if byte == b'\n' {
-            ended = true;
-            break;
-        }
-        held = hold(line, held, byte);
-    }
-    Input {
-        have: input.have,
-        next,
-        held,
-        ended,
-    }
-}
-
-// The longest line, a carriage return and one byte more are held: what is longer is too long by these.
-fn hold(line: &mut [u8; 8194], held: usize, byte: u8) -> usize {
-    if held < 8194 {
-        line[held] = byte;
-        return held + 1;
-    }
-    held
-}
-
-// A carriage return just before the line feed is not part of the line.
-fn without_return(text: &[u8]) -> &[u8] {
-    let count = text.len();
-    if count > 0 {
-        if text[count - 1] == b'\r' {
-            return first(text, count - 1);
+    pub fn text(&self) -> &[u8]
+        ensures { length result.now ≤ length self.now }
+    {
+        let held = self.held.as_slice();
+        match self.end {
+            End::Open => &[],
+            // A carriage return just before the line feed is not part of the line.
+            End::LineFeed => held.strip_suffix(b"\r").unwrap_or(held),
+            End::Input => held,
         }
     }
-    text
-}
-
-// The first bytes of a run, all of it where it has fewer.
-pub fn first(bytes: &[u8], count: usize) -> &[u8] {
-    if count > bytes.len() {
-        return bytes;
-    }
-    &bytes[..count]
 }

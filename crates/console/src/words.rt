@@ -1,143 +1,131 @@
-// Words, each up to a separator or the end, and what they stand for by their kind: a digit is HEX of so many bytes, `0`
-// of any number and `-` for none, and `t`, `s`, `m` and `l` are DEC up to 1, 255, 65,535 and 4,294,967,295.
-ghost use Rattle.std.specs.Prelude.{◌≤◌, length};
+// The words of a line, and the values that they stand for.
+ghost use Rattle.std.specs.Prelude.{◌<◌, IfOk};
 
-use std::num::{wrapping_add_usize, wrapping_sub_u8};
+use frame::Address;
+use std::str::{FromStr, Utf8Error};
 
-// The value of no word.
-pub const MALFORMED: u64 = 0x1_0000_0000;
+// A line that is no command, or a word that is not what its command asks.
+#[derive(Clone, Copy, Debug, PartialEq, Eq)]
+pub struct BadLine;
 
-// The part of a number, from 0 on; empty where the text has fewer.
-pub fn part(text: &[u8], separator: u8, number: usize) -> &[u8] {
-    let from = start_of(text, separator, number);
-    let to = end_of(text, separator, from);
-    &text[from..to]
+impl From<Utf8Error> for BadLine {
+    fn from(_error: Utf8Error) -> BadLine {
+        BadLine
+    }
 }
 
-// The place behind so many separators, or the end.
-fn start_of(text: &[u8], separator: u8, number: usize) -> usize
-    ensures { result ≤ length text.now }
+// The words that are left of a line: they are separated by exactly one space, with none in front and none behind.
+#[derive(Clone, Copy)]
+pub(crate) struct Words<'a> {
+    rest: Option<&'a str>,
+}
+
+impl<'a> Words<'a> {
+    pub(crate) fn of(line: &'a str) -> Words<'a> {
+        Words { rest: Some(line) }
+    }
+
+    pub(crate) fn is_over(&self) -> bool {
+        self.rest.is_none()
+    }
+
+    // A line ends behind its command's words.
+    pub(crate) fn end(&self) -> Result<(), BadLine> {
+        if self.is_over() { Ok(()) } else { Err(BadLine) }
+    }
+
+    pub(crate) fn word(&mut self) -> Result<&'a str, BadLine> {
+        let rest = self.rest.ok_or(BadLine)?;
+        let Some((word, behind)) = rest.split_once(' ') else {
+            self.rest = None;
+            return Ok(rest);
+        };
+        self.rest = Some(behind);
+        Ok(word)
+    }
+
+    // DEC: 1 to 10 digits, of a number that the type has.
+    pub(crate) fn decimal<T: FromStr>(&mut self) -> Result<T, BadLine>
+    where
+        T: Drop,
+        T::Err: Drop,
+    {
+        let word = self.word()?;
+        if word.len() > 10 || !word.bytes().all(|digit| digit.is_ascii_digit()) {
+            return Err(BadLine);
+        }
+        word.parse().map_err(|_| BadLine)
+    }
+
+    // DEC of 0 or 1.
+    pub(crate) fn flag(&mut self) -> Result<bool, BadLine> {
+        match self.decimal::<u8>()? {
+            0 => Ok(false),
+            1 => Ok(true),
+            _ => Err(BadLine),
+        }
+    }
+
+    // HEX of exactly so many bytes.
+    pub(crate) fn bytes<const N: usize>(&mut self) -> Result<[u8; N], BadLine> {
+        let mut bytes = [0; N];
+        decode(self.word()?, &mut bytes)?;
+        Ok(bytes)
+    }
+
+    // BYTE
+    pub(crate) fn byte(&mut self) -> Result<u8, BadLine> {
+        let [byte] = self.bytes::<1>()?;
+        Ok(byte)
+    }
+
+    // ID: the number as printed on the label, high byte first.
+    pub(crate) fn id(&mut self) -> Result<Address, BadLine> {
+        let [high, middle, low] = self.bytes::<3>()?;
+        Ok(Address::from_bytes(low, middle, high))
+    }
+
+    // HEX of any number of bytes, which go into the room that is lent; `-` is none.
+    pub(crate) fn hex<'b>(&mut self, room: &'b mut [u8; 4096]) -> Result<&'b [u8], BadLine> {
+        let word = self.word()?;
+        if word == "-" {
+            return Ok(&[]);
+        }
+        if word.is_empty() {
+            return Err(BadLine);
+        }
+        let bytes = room.get_mut(..word.len() / 2).ok_or(BadLine)?;
+        decode(word, bytes)?;
+        Ok(bytes)
+    }
+}
+
+// Two digits a byte, the high one first.
+fn decode(word: &str, bytes: &mut [u8]) -> Result<(), BadLine> {
+    if word.len() % 2 != 0 || word.len() / 2 != bytes.len() {
+        return Err(BadLine);
+    }
+    for (byte, pair) in bytes.iter_mut().zip(word.as_bytes().chunks_exact(2)) {
+        *byte = pair_value(pair)?;
+    }
+    Ok(())
+}
+
+fn pair_value(pair: &[u8]) -> Result<u8, BadLine> {
+    match pair {
+        [high, low] => Ok(16 * digit(*high)? + digit(*low)?),
+        _ => Err(BadLine),
+    }
+}
+
+// A digit of either case.
+fn digit(byte: u8) -> Result<u8, BadLine>
+    ensures { IfOk result (λ value. value < 16) }
 {
-    let mut left = number;
-    let mut place = 0;
-    while place < text.len() {
-        if left == 0 {
-            break;
-        }
-        if text[place] == separator {
-            left -= 1;
-        }
-        place += 1;
+    match byte {
+        b'0'..=b'9' => Ok(byte - b'0'),
+        b'A'..=b'F' => Ok(byte - b'A' + 10),
+        b'a'..=b'f' => Ok(byte - b'a' + 10),
+        _ => Err(BadLine),
     }
-    place
-}
-
-// The place of the next separator, or the end.
-fn end_of(text: &[u8], separator: u8, from: usize) -> usize
-    requires { from ≤ length text.now }
-    ensures { (from ≤ result) × (result ≤ length text.now) }
-{
-    let mut place = from;
-    while place < text.len() {
-        if text[place] == separator {
-            break;
-        }
-        place += 1;
-    }
-    place
-}
-
-// How many words a line has.
-pub fn parts(line: &[u8]) -> usize {
-    let mut count = 1;
-    for i in 0..line.len() {
-        if line[i] == b' ' {
-            count = wrapping_add_usize(count, 1);
-        }
-    }
-    count
-}
-
-// The digits go into the run that is lent, two a byte.
-pub fn value_of(kind: u8, word: &[u8], bytes: &mut [u8; 4096]) -> u64 {
-    let count = digit_of(kind);
-    if count == 0 {
-        if word == b"-".as_slice() {
-            return 0;
-        }
-    }
-    if !is_long(word.len(), count) {
-        return MALFORMED;
-    }
-    let number = number_of(word, base_of(count), bytes);
-    if number > most(kind) {
-        return MALFORMED;
-    }
-    number
-}
-
-// HEX has two digits a byte, DEC at most ten.
-fn is_long(digits: usize, count: u8) -> bool {
-    match count {
-        0 => digits % 2 == 0,
-        16 => digits <= 10,
-        _ => digits == 2 * (count as usize),
-    }
-}
-
-fn base_of(count: u8) -> u8 {
-    if count == 16 {
-        return 10;
-    }
-    16
-}
-
-fn most(kind: u8) -> u64 {
-    match kind {
-        b't' => 1,
-        b's' => 255,
-        b'm' => 65535,
-        _ => 0xFFFF_FFFF,
-    }
-}
-
-// No digits are malformed.
-fn number_of(word: &[u8], base: u8, bytes: &mut [u8; 4096]) -> u64 {
-    let mut number = MALFORMED;
-    for i in 0..word.len() {
-        let digit = digit_of(word[i]);
-        if digit >= base {
-            return MALFORMED;
-        }
-        keep(bytes, i, digit);
-        number = with_digit(number, base, digit);
-    }
-    number
-}
-
-// The number that the last eight digits of HEX are, or all ten of DEC.
-fn with_digit(number: u64, base: u8, digit: u8) -> u64 {
-    if base == 16 {
-        return number % 0x1000_0000 * 16 + digit as u64;
-    }
-    number % MALFORMED * 10 + digit as u64
-}
-
-// A digit of a number in the run, the high one of a byte before the low one.
-fn keep(bytes: &mut [u8; 4096], which: usize, digit: u8) {
-    let place = which / 2 % 4096;
-    bytes[place] = bytes[place] % 16 * 16 + digit % 16;
-}
-
-// The value of a hexadecimal digit of either case, 16 for any other byte.
-fn digit_of(byte: u8) -> u8 {
-    let digit = wrapping_sub_u8(byte, b'0');
-    if digit < 10 {
-        return digit;
-    }
-    let letter = wrapping_sub_u8(byte | 0x20, b'a');
-    if letter < 6 {
-        return letter + 10;
-    }
-    16
 }

@@ -7,11 +7,11 @@ use mathlib.Core.List.{List}
 use lib.ListN.{length, get_or}
 use Rattle.meaning.specs.Tables.{of_decided}
 use Rattle.motors.specs.Register.{places}
-use Rattle.motors.specs.declared.answer.Answer.{Answer}
-use Rattle.motors.specs.declared.answer.Answer.TheVariants as answer
 use Rattle.form.specs.Shape.{Shape}
 use Rattle.form.specs.Layout.{form_length, count_in, contents_right, bodies_right}
 use Rattle.form.specs.Reading.{read_table, checked}
+use Rattle.motors.specs.Answer.{Answer}
+use Rattle.std.specs.Prelude.{Ok, Err}
 
 pub record Accepted (s : Shape) (b : List ℕ) (n : ℕ) : Type 0 where
   pub begins_as_the_shape_says : get_or b 0 0 ≡ s.first_byte
@@ -22,9 +22,9 @@ pub record Accepted (s : Shape) (b : List ℕ) (n : ℕ) : Type 0 where
   pub number : n ≡ count_in b
 
 abbrev pub Checked : Shape → List ℕ → Answer → Type 0
-Checked s b (answer.Count n) = Accepted s b n
-Checked s b (answer.Refused r) = Unit {0}
+Checked s b (Ok n) = Accepted s b n
+Checked s b (Err r) = Unit {0}
 
 pub checked_as : (s : Shape) (run : ℕ) (b : List ℕ) → Checked s b (checked s run b)
 unfolding checked
-checked_as s run b = of_decided (Checked s b) (read_table s run b) (answer.Count (count_in b)) (search) (λ facts. search)
+checked_as s run b = of_decided (Checked s b) (read_table s run b) (Ok (count_in b)) (search) (λ facts. search)

@@ -1,28 +1,27 @@
 -- A check at each of the first places, and the motors of places, one by one.
 -- Assumes nothing.
-use Prim.Native.Nat.{ℕ, zero, suc, ◌+◌, ◌≤◌, ◌<◌}
+use Prim.Native.Nat.{ℕ, zero, suc, ◌+◌, ◌<◌}
 use native.Mathlib.Omega.{arith}
 use native.Mathlib.Numerals.{add-one}
 use native.Mathlib.Nat.{add-zero, le_of_suc-le-suc}
 use mathlib.Core.Path.{◌≡◌, refl, ◌∙◌, sym, ap}
-use mathlib.Core.Bool.{Bool, true, false}
+use mathlib.Core.Bool.{Bool, true, ◌&&◌}
 use lib.Dec.{eqb}
 use lib.ListN.{length, get_or}
 use borrow.Author.Tests.{eqb-true, eqb-false}
 use Rattle.meaning.specs.Cases.{by_test, passed_both}
-use Rattle.runs.proofs.Order.{else_false, never_both}
+use denote.Param.Members.{Mut}
+use Rattle.std.specs.declared.ops.Range.{Range}
+use Rattle.std.specs.Fn.{Called}
+use Rattle.std.specs.Iterator.{ChecksAll}
+use Rattle.std.specs.List.{list_all, range_with_len}
+use Rattle.std.proofs.iter.Yields.{nat_range_steps}
+use Rattle.std.proofs.lemmas.Iterator.{YieldsList-from_range}
+use Rattle.std.proofs.lemmas.Iterator.Search.{all_from_yields_List}
 use Rattle.motors.specs.declared.motor.Motor.{Motor}
 use Rattle.form.specs.Layout.{everywhere, listed}
 
 module _ (right : ℕ → Bool) where
-  pub right_so_far : everywhere right 0 ≡ true
-  unfolding everywhere
-  right_so_far = refl
-
-  pub right_here_too : (i : ℕ) → everywhere right i ≡ true → right i ≡ true → everywhere right (i + 1) ≡ true
-  unfolding everywhere
-  right_here_too i e r = rw (add-one, e, r)
-
   pub right_at : (n i : ℕ) → everywhere right n ≡ true → i < n → right i ≡ true
   unfolding everywhere
   right_at zero i e h = absurd (omega arith)
@@ -30,16 +29,28 @@ module _ (right : ℕ → Bool) where
       let each = passed_both (everywhere right n) (right n) e in
       by_test (eqb i n) (λ t. rw (eqb-true i n t) each.1) (λ t. right_at n i each.0 (omega (arith, eqb-false i n t)))
 
-  pub wrong_here : (i n : ℕ) → i < n → right i ≡ false → everywhere right n ≡ false
-  wrong_here i n h w = else_false (everywhere right n) (λ e. never_both (right_at n i e h) w)
-
-  pub right_to_the_end : (i n : ℕ) → n ≤ i → i ≤ n → everywhere right i ≡ true → everywhere right n ≡ true
-  right_to_the_end i n h h' e = let same : i ≡ n = omega arith in rw same at e
-
   pub right_at_each : (n : ℕ) → ((i : ℕ) → i < n → right i ≡ true) → everywhere right n ≡ true
   unfolding everywhere
   right_at_each zero f = refl
   right_at_each (suc n) f = rw (right_at_each n (λ i h. f i (omega arith))) (f n (omega arith))
+
+  in_turn_from : (i n : ℕ) → (everywhere right i && list_all right (range_with_len i n)) ≡ everywhere right (i + n)
+  unfolding everywhere
+  in_turn_from i zero = by_test (everywhere right i) (λ t. rw (add-zero, t) refl) (λ t. rw (add-zero, t) refl)
+  in_turn_from i (suc n) =
+      let on : i + suc n ≡ suc i + n = omega arith in
+      by_test (everywhere right i)
+      (λ t. rw (add-one, t, on) (rw t at (in_turn_from (suc i) n)))
+      (λ t. rw (t, on) (rw t at (in_turn_from (suc i) n)))
+
+  -- The chain `(0..n).all(..)` of that check.
+  pub all_in_range : {F : Type 0} {g : Mut F (ℕ × Unit {0}) Bool} (n : ℕ) (f : F) (u : Range ℕ) (r : Bool)
+      → ChecksAll nat_range_steps g (record { start = 0; end = n }) f r u
+      → ((i : ℕ) (b : Bool) (q : F) → Called g f (i, tt) b q → (q ≡ f) × (b ≡ right i)) → r ≡ everywhere right n
+  unfolding everywhere
+  all_in_range n f u r ran each =
+      let start : 0 + n ≡ n = omega arith in
+      all_from_yields_List right u f r ran (YieldsList-from_range 0 n n refl (omega arith)) each ∙ in_turn_from 0 n ∙ ap (everywhere right) start
 
 module _ (motor_at : ℕ → Motor) where
   pub length-listed : (at n : ℕ) → length (listed motor_at at n) ≡ n

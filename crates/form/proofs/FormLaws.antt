@@ -11,17 +11,13 @@ use Rattle.meaning.specs.Bytes.{Bytes}
 use Rattle.refusal.specs.declared.Refusal.{Refusal}
 use Rattle.frame.specs.Writing.{over}
 use Rattle.motors.specs.Register.{held, filled, sound_of}
-use Rattle.motors.specs.declared.answer.Answer.{Answer}
-use Rattle.motors.specs.declared.answer.Answer.TheVariants as answer
 use Rattle.motors.specs.declared.answer.Next.{Next}
 use Rattle.motors.specs.declared.motor.Motor.{Motor}
 use Rattle.motors.proofs.Sound.{sound_is, is_sound_lem, held_again, length_held}
 use Rattle.form.specs.Layout.{form_length, form_of, count_in, motors_in}
 use Rattle.form.specs.FormOne.{form_one, TwoBytePulse, TwoBytePulses}
 use Rattle.form.specs.Reading.{read_by, check_of, read_of}
-use Rattle.form.specs.Writing.{written_of, laid, buffer_after}
-use Rattle.form.specs.declared.writing.Written.{Written}
-use Rattle.form.specs.declared.writing.Written.TheVariants.{Bytes as WrittenBytes, Refused}
+use Rattle.form.specs.Writing.{written_of, laid, buffer_after, Written}
 use Rattle.form.proofs.Accepted.{Accepted, checked_as}
 use Rattle.form.proofs.FormOne.{form_one_is_of_one_size, form_one_is_faithful}
 use Rattle.form.proofs.InPlace.{the_check_is_the_answer, refused_leaves_the_run, refused_leaves_the_buffer}
@@ -29,13 +25,15 @@ use Rattle.form.proofs.Laying as laying
 use Rattle.form.proofs.ReadBack.{accepted_back, motors_back}
 use Rattle.form.proofs.Rows.{written_by}
 use Rattle.form.proofs.WrittenBack.{number, motors_right, motors_ascend, form_again}
+use Rattle.motors.specs.Answer.{Answer}
+use Rattle.std.specs.Prelude.{Ok, Err}
 
 pub length_form : (l : List Motor) → length (form_of form_one l) ≡ form_length form_one (length l)
 length_form l = laying.length_form form_one form_one_is_of_one_size l
 
 -- ---- read of written is the register
 abbrev pub next : List Motor → ℕ → Next
-next motors n = record { motors = motors; answer = answer.Count n }
+next motors n = record { motors = motors; answer = Ok n }
 
 module _ (run : List Motor) (count : ℕ) (ok : sound_of run count ≡ true) (pulses : TwoBytePulses (held run count)) where
   pub read_of_written_is_the_register : (other : List Motor) → length other ≡ 256 → read_of other (form_of form_one (held run count)) ≡ next run count
@@ -56,11 +54,11 @@ module _ (run : List Motor) (b : List ℕ) where
   abbrev after : Next
   after = read_of run b
 
-  pub a_refused_form_leaves_the_run_as_it_was : (r : Refusal) → after.answer ≡ answer.Refused r → after.motors ≡ run
+  pub a_refused_form_leaves_the_run_as_it_was : (r : Refusal) → after.answer ≡ Err r → after.motors ≡ run
   a_refused_form_leaves_the_run_as_it_was r e = refused_leaves_the_run run b r (the_check_is_the_answer run b ∙ e)
 
-  module _ (n : ℕ) (e : after.answer ≡ answer.Count n) where
-    counted : check_of (length run) b ≡ answer.Count n
+  module _ (n : ℕ) (e : after.answer ≡ Ok n) where
+    counted : check_of (length run) b ≡ Ok n
     counted = the_check_is_the_answer run b ∙ e
 
     pub accepted : Accepted form_one b n
@@ -95,20 +93,20 @@ module _ (run : List Motor) (b : List ℕ) where
           ∙ form_again form_one TwoBytePulse form_one_is_faithful b n accepted bytes
 
       pub a_form_read_and_written_again_is_the_same : (buffer : List ℕ) → length b ≤ length buffer
-          → (written_of after.motors n (length buffer) ≡ WrittenBytes (length b)) × (buffer_after after.motors n buffer ≡ over b buffer)
+          → (written_of after.motors n (length buffer) ≡ Ok (length b)) × (buffer_after after.motors n buffer ≡ over b buffer)
       a_form_read_and_written_again_is_the_same buffer room =
           let n-is : form_length form_one n ≡ length b = ap (form_length form_one) the_count_is_the_one_stored ∙ sym accepted.as_long_as_it_says in
           let answered = written_by after.motors n (length buffer) 2 (an_accepted_form_gives_a_sound_register, (omega (arith, n-is), tt)) in (
-            answered ∙ ap WrittenBytes n-is,
+            answered ∙ ap Ok n-is,
             ap (λ (w : Written). laid w after.motors n buffer) answered ∙ ap (λ (w : List ℕ). over w buffer) written_of_read_is_the_bytes,
           )
 
 -- ---- writing changes the form's own bytes alone
 pub a_refused_writing_changes_no_byte : (run : List Motor) (count : ℕ) (buffer : List ℕ) (r : Refusal)
-    → written_of run count (length buffer) ≡ Refused r → buffer_after run count buffer ≡ buffer
+    → written_of run count (length buffer) ≡ Err r → buffer_after run count buffer ≡ buffer
 a_refused_writing_changes_no_byte = refused_leaves_the_buffer
 
-module _ (run : List Motor) (count : ℕ) (buffer : List ℕ) (n : ℕ) (e : written_of run count (length buffer) ≡ WrittenBytes n) where
+module _ (run : List Motor) (count : ℕ) (buffer : List ℕ) (n : ℕ) (e : written_of run count (length buffer) ≡ Ok n) where
   abbrev form : List ℕ
   form = form_of form_one (held run count)
 

@@ -20,28 +20,12 @@ use Rattle.motors.specs.Motor.{zeros}
 use Rattle.motors.specs.Order.{by_line_and_node, key_of}
 use Rattle.motors.specs.Register.{places, held, filled, sound_of}
 use Rattle.motors.specs.Found.{standing, found_of}
-use Rattle.motors.specs.declared.answer.Answer.{Answer}
-use Rattle.motors.specs.declared.answer.Answer.TheVariants as answer
 use Rattle.motors.specs.declared.motor.Motor.{Motor}
 use Rattle.motors.proofs.Sound.{sound_is}
 use Rattle.form.specs.Layout.{form_length, count_in, motor_in, motors_in}
 use Rattle.form.specs.FormOne.{form_one}
 use Rattle.form.specs.Reading.{read_by, check_of, read_of, place_in}
-use Rattle.form.specs.Writing.{
-  write_form_table,
-  written_of,
-  room_for,
-  room_of,
-  is_refused,
-  laid,
-  buffer_after,
-  first_over,
-  head_laid,
-  motor_laid,
-  laid_up_to,
-}
-use Rattle.form.specs.declared.writing.Written.{Written}
-use Rattle.form.specs.declared.writing.Written.TheVariants.{Bytes, Refused}
+use Rattle.form.specs.Writing.{write_form_table, written_of, room_for, room_of, laid, buffer_after, first_over, head_laid, motor_laid, laid_up_to, Written}
 use Rattle.form.proofs.Everywhere.{length-listed, listed_at}
 use Rattle.form.proofs.Placed.{behind_the_last, at_its_place}
 use Rattle.form.proofs.Fitting.{so_it_fits}
@@ -49,6 +33,8 @@ use Rattle.form.proofs.Accepted.{Accepted, Checked, checked_as}
 use Rattle.form.proofs.FormOne.{form_one_is_of_one_size}
 use Rattle.form.proofs.Laying.{the_form_is_laid, head_keeps_the_length, motor_keeps_the_length, first_keep_the_length}
 use Rattle.form.proofs.Rows.{written_by, room_by}
+use Rattle.motors.specs.Answer.{Answer}
+use Rattle.std.specs.Prelude.{Ok, Err, is_err}
 
 -- ---- reading
 module _ (run : List Motor) (b : List ℕ) where
@@ -57,14 +43,14 @@ module _ (run : List Motor) (b : List ℕ) where
   the_check_is_the_answer = told (check_of (length run) b) (checked_as form_one (length run) b)
     where
       told : (a : Answer) → Checked form_one b a → a ≡ (read_by form_one run b a).answer
-      told (answer.Count n) c = ap answer.Count (c.number ∙ sym (length-listed (motor_in form_one (count_in b) b) 0 (count_in b)))
-      told (answer.Refused r) c = refl
+      told (Ok n) c = ap Ok (c.number ∙ sym (length-listed (motor_in form_one (count_in b) b) 0 (count_in b)))
+      told (Err r) c = refl
 
   -- A form that is refused leaves every place as it was.
-  pub refused_leaves_the_run : (r : Refusal) → check_of (length run) b ≡ answer.Refused r → (read_of run b).motors ≡ run
+  pub refused_leaves_the_run : (r : Refusal) → check_of (length run) b ≡ Err r → (read_of run b).motors ≡ run
   refused_leaves_the_run r e = ap (λ (a : Answer). (read_by form_one run b a).motors) e
 
-  module _ (n : ℕ) (e : check_of (length run) b ≡ answer.Count n) where
+  module _ (n : ℕ) (e : check_of (length run) b ≡ Ok n) where
     accepted : Accepted form_one b n
     accepted = rw e at (checked_as form_one (length run) b)
 
@@ -93,7 +79,7 @@ module _ (run : List Motor) (b : List ℕ) where
             let start : 0 + i ≡ i = omega arith in
             filled_has_the_record places zeros (motors_in form_one b) i (omega (arith, number))
             ∙ listed_at (motor_in form_one (count_in b) b) 0 (count_in b) i zeros h ∙ ap (motor_in form_one (count_in b) b) start
-            ∙ at_its_place form_one (count_in b) b i accepted.at_most_256 accepted.as_long_as_it_says h)
+            ∙ at_its_place form_one (count_in b) b i accepted.at_most_256 accepted.as_long_as_it_says h refl)
             (λ t.
             let h : count_in b ≤ i = ltb-false i (count_in b) t in
             filled_is_blank_behind places zeros (motors_in form_one b) i (omega (arith, number))
@@ -123,11 +109,11 @@ module _ (run : List Motor) (count : ℕ) (n : ℕ) where
       (λ t. rw t (sym (written_by run count n 0 t)))
 
   -- A form is written of a sound register, where there is room.
-  pub written_where : (size : ℕ) → written_of run count n ≡ Bytes size → (sound_of run count ≡ true) × (form_length form_one count ≤ n)
+  pub written_where : (size : ℕ) → written_of run count n ≡ Ok size → (sound_of run count ≡ true) × (form_length form_one count ≤ n)
   unfolding written_of
   written_where size e =
-      ⊎_elim (λ p. (p.0, p.1.0)) (λ r. absurd (false≢true (sym (ap is_refused e) ∙ r)))
-      (passed_or_answered (λ w. is_refused w ≡ true) (write_form_table run count n) (Bytes (form_length form_one count)) (refl, (refl, tt)))
+      ⊎_elim (λ p. (p.0, p.1.0)) (λ r. absurd (false≢true (sym (ap is_err e) ∙ r)))
+      (passed_or_answered (λ w. is_err w ≡ true) (write_form_table run count n) (Ok (form_length form_one count)) (refl, (refl, tt)))
 
 module _ (count : ℕ) (buffer : List ℕ) where
   pub lay_head_keeps_the_length : length (head_laid count buffer) ≡ length buffer
@@ -151,7 +137,7 @@ module _ (run : List Motor) (count : ℕ) (buffer : List ℕ) where
   laying_keeps_the_length i = first_keep_the_length form_one form_one_is_of_one_size count run buffer i
 
   -- All the motors held: what the whole writing leaves.
-  pub laying_ends : (n : ℕ) → written_of run count (length buffer) ≡ Bytes n → laid_up_to run count buffer count ≡ buffer_after run count buffer
+  pub laying_ends : (n : ℕ) → written_of run count (length buffer) ≡ Ok n → laid_up_to run count buffer count ≡ buffer_after run count buffer
   laying_ends n e =
       let where_written = written_where run count (length buffer) n e in
       let sound = sound_is run count where_written.0 in
@@ -160,5 +146,5 @@ module _ (run : List Motor) (count : ℕ) (buffer : List ℕ) where
       (so_it_fits form_one count (length buffer) sound.at_most_256 where_written.1)
       ∙ sym (ap (λ (w : Written). laid w run count buffer) e)
 
-  pub refused_leaves_the_buffer : (r : Refusal) → written_of run count (length buffer) ≡ Refused r → buffer_after run count buffer ≡ buffer
+  pub refused_leaves_the_buffer : (r : Refusal) → written_of run count (length buffer) ≡ Err r → buffer_after run count buffer ≡ buffer
   refused_leaves_the_buffer r e = ap (λ (w : Written). laid w run count buffer) e

@@ -1,7 +1,7 @@
 -- The bytes of an entry and of a body, found from where it stands; what form 1 makes of them.
 -- Assumes nothing.
 use Rattle.std.specs.Prelude.{if◌then◌else◌}
-use Prim.Native.Nat.{ℕ, ◌+◌, ◌*◌, ◌<◌}
+use Prim.Native.Nat.{ℕ, suc, ◌-◌, ◌+◌, ◌*◌, ◌<◌}
 use native.Mathlib.Omega.{arith}
 use native.Mathlib.Nat.{add-zero}
 use mathlib.Core.Path.{◌≡◌, ◌∙◌, sym, ap}
@@ -13,8 +13,6 @@ use lib.ListN.{get_or, drop}
 use lib.Seq.{get_or-drop, get_or-take}
 use borrow.Author.Tests.{eq-eqb, ne_eqb}
 use Rattle.meaning.specs.Cases.{by_test}
-use Rattle.frame.specs.Address.{address_of}
-use Rattle.frame.specs.declared.address.Address.{Address}
 use Rattle.motors.specs.Motor.{unread, with_reading, is_line, is_node, is_reading, unread_part, reading_part, right_beside_line, right_of, follows_of}
 use Rattle.motors.specs.Order.{key_of}
 use Rattle.motors.specs.declared.motor.Motor.{Motor}
@@ -45,12 +43,6 @@ module _ (size : ℕ) (b : List ℕ) (from at : ℕ) (e : from ≡ at) where
 
 -- ---- an entry
 module _ (b : List ℕ) (at from : ℕ) (e : from ≡ entry_place at) where
-  pub entry_read : (a : Address) (r : Motor) → a ≡ address_of (get_or b (from + 1) 0) (get_or b (from + 2) 0) (get_or b (from + 3) 0)
-      → r ≡ unread (get_or b from 0) a.0 → r ≡ unread (line_in b at) (node_in b at)
-  entry_read a r q f =
-      let on = byte_on entry_size b from (entry_place at) e in
-      f ∙ rw (q, first_byte entry_size b from (entry_place at) e (omega arith), on 1 (omega arith), on 2 (omega arith), on 3 (omega arith))
-
   pub pointer_read : (p : ℕ) → p ≡ get_or b (from + 4) 0 + 256 * get_or b (from + 5) 0 → p ≡ pointer_in b at
   pointer_read p q =
       let on = byte_on entry_size b from (entry_place at) e in
@@ -63,7 +55,7 @@ key_of_the_entry line node d = by_test (eqb (get_or d 0 0) 1) (λ t. rw t) (λ t
 
 module _ (count : ℕ) (b : List ℕ) (i : ℕ) where
   -- So its order is that of the entry before its reading is known.
-  pub behind_by_entry : (previous : Motor)
+  behind_by_entry : (previous : Motor)
       → entry_behind form_one previous count b i
       ≡ (if follows_of previous (unread (line_in b i) (node_in b i)) then eqb (pointer_in b i) (body_place form_one count i) else false)
   unfolding entry_behind follows_of right_of right_beside_line reading_part unread_part
@@ -72,19 +64,23 @@ module _ (count : ℕ) (b : List ℕ) (i : ℕ) where
       (λ l. by_test (is_node (node_in b i)) (λ n. rw (l, n, key_of_the_entry (line_in b i) (node_in b i) (body_in form_one count b i))) (λ n. rw (l, n)))
       (λ l. rw l)
 
-  pub entry_wrong : (previous m : Motor) → m ≡ unread (line_in b i) (node_in b i) → follows_of previous m ≡ false
-      → entry_behind form_one previous count b i ≡ false
-  entry_wrong previous m e f = behind_by_entry previous ∙ rw (← e, f)
+  -- And the entry before stands in for the motor before, since the order is that of keys.
+  module _ (previous m : Motor) (before : key_of previous ≡ key_of (previous_in form_one count b i)) (e : m ≡ unread (line_in b i) (node_in b i)) where
+    by_keys : entry_behind form_one previous count b i ≡ entry_right form_one count b i
+    unfolding entry_behind
+    by_keys = rw before
 
-  pub entry_placed : (previous m : Motor) → m ≡ unread (line_in b i) (node_in b i) → follows_of previous m ≡ true
-      → (p place : ℕ) → p ≡ pointer_in b i → place ≡ body_place form_one count i → eqb p place ≡ entry_behind form_one previous count b i
-  entry_placed previous m e f p place q h = rw (q, h) (sym (behind_by_entry previous ∙ rw (← e, f)))
+    pub entry_wrong : follows_of previous m ≡ false → entry_right form_one count b i ≡ false
+    entry_wrong f = sym by_keys ∙ behind_by_entry previous ∙ rw (← e, f)
 
-  -- The order is that of keys, so that the entry before stands in for the motor before.
-  pub behind_the_previous : (previous : Motor) → key_of previous ≡ key_of (previous_in form_one count b i) → {r : Bool}
-      → r ≡ entry_behind form_one previous count b i → r ≡ entry_right form_one count b i
-  unfolding entry_behind
-  behind_the_previous previous e f = f ∙ rw e
+    pub entry_placed : follows_of previous m ≡ true → (p place : ℕ) → p ≡ pointer_in b i → place ≡ body_place form_one count i
+        → eqb p place ≡ entry_right form_one count b i
+    entry_placed f p place q h = rw (q, h) (sym (sym by_keys ∙ behind_by_entry previous ∙ rw (← e, f)))
+
+  pub key_before : i ≢ 0 → (m : Motor) → m ≡ unread (line_in b (i - 1)) (node_in b (i - 1)) → key_of m ≡ key_of (previous_in form_one count b i)
+  key_before h m f =
+      let next : i ≡ suc (i - 1) = omega arith in
+      rw (next, f) (sym (key_of_the_entry (line_in b (i - 1)) (node_in b (i - 1)) (body_in form_one count b (i - 1))))
 
 -- ---- a body
 module _ (b : List ℕ) (count at from : ℕ) (e : from ≡ body_place form_one count at) where

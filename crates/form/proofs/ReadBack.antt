@@ -16,7 +16,6 @@ use Rattle.runs.proofs.ByPlace.{earlier_place_is_before, all_exactly_when_by_pla
 use Rattle.motors.specs.Motor.{zeros, is_line, is_node}
 use Rattle.motors.specs.Order.{by_line_and_node, earlier_of}
 use Rattle.motors.specs.Register.{places, Right}
-use Rattle.motors.specs.declared.answer.Answer.TheVariants.{Count}
 use Rattle.motors.specs.declared.motor.Motor.{Motor}
 use Rattle.form.specs.Shape.{Shape, Faithful}
 use Rattle.form.specs.Layout.{
@@ -51,6 +50,7 @@ use Rattle.form.proofs.Turns.{one_in_turn}
 use Rattle.form.proofs.Laying.{length_contents, length_form}
 use Rattle.form.proofs.Right.{line_right, node_right, line_small, node_small, behind_zeros}
 use Rattle.form.proofs.Rows.{checked_by_lem}
+use Rattle.std.specs.Prelude.{Ok}
 
 -- A line, a NodeID and a body that are the same.
 same_at : {A : Type 0} (g : (line node : ℕ) → List ℕ → A) {line line' node node' : ℕ} {d d' : List ℕ} → line ≡ line' → node ≡ node' → d ≡ d'
@@ -149,7 +149,7 @@ module _ (s : Shape) (Fits : Motor → Type 0) (f : Faithful s Fits) (l : List M
     bodies_back : bodies_right s count form ≡ true
     bodies_back = right_at_each (body_right s count form) count (λ i h. body_right_lem i h (right_here i h))
 
-    pub accepted_back : checked s places form ≡ Count (count_in form)
+    pub accepted_back : checked s places form ≡ Ok (count_in form)
     accepted_back =
         sym (checked_by_lem s places form 6 (
           refl,

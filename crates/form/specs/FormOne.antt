@@ -47,9 +47,6 @@ TwoBytePulse m = m.pulse < 65536
 abbrev pub TwoBytePulses : List Motor → Type 0
 TwoBytePulses l = All TwoBytePulse l
 
--- Bytes as many as a form of so many motors has, and one of its places: what the code asks before it looks there.
+-- Bytes as many as a form of so many motors has.
 abbrev pub IsLong : List ℕ → ℕ → Type 0
 IsLong b count = (count ≤ places) × (length b ≡ form_length form_one count)
-
-abbrev pub HasPlace : List ℕ → ℕ → ℕ → Type 0
-HasPlace b count at = IsLong b count × (at < count)

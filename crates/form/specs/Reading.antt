@@ -1,40 +1,39 @@
 -- Reading a stored form (document 01, rows 19 and 40 to 44): the answer, and the places at the end.
 -- Assumes nothing.
-use Rattle.std.specs.Prelude.{if◌then◌else◌, ℕ, Bool, true, false, List, [], ◌∷◌, leb, ltb, eqb, length, get_or}
+use Rattle.std.specs.Prelude.{if◌then◌else◌, ℕ, Bool, true, false, List, [], ◌∷◌, leb, ltb, eqb, length, get_or, Ok, Err}
 use Rattle.meaning.specs.Tests.{◌below◌, ◌above◌, ◌is_not◌, fails, ◌or◌}
 use Rattle.meaning.specs.Tables.{Row, ◌when◌, decide}
 use Rattle.refusal.specs.declared.Refusal.{Refusal}
 use Rattle.motors.specs.Motor.{zeros}
 use Rattle.motors.specs.Register.{places}
 use Rattle.motors.specs.Filing.{keeping, refusing}
-use Rattle.motors.specs.declared.answer.Answer.{Answer}
-use Rattle.motors.specs.declared.answer.Answer.TheVariants.{Count, Refused}
 use Rattle.motors.specs.declared.answer.Next.{Next}
 use Rattle.motors.specs.declared.motor.Motor.{Motor}
 use Rattle.form.specs.Shape.{Shape}
 use Rattle.form.specs.Layout.{head_size, form_length, count_in, contents_right, bodies_right, motor_in, motors_in}
 use Rattle.form.specs.FormOne.{form_one}
+use Rattle.motors.specs.Answer.{Answer}
 
 -- ---- a form of any shape
 -- Why a form is not read into a run of so many places: rows 19 and 40 to 44. Of the run only the length is checked.
 abbrev pub read_table : Shape → ℕ → List ℕ → List (Row Answer)
 read_table s n b =
-    Refused Refusal.BrokenRegister when n is_not places
-    ∷ Refused Refusal.NotFormOne when length b below head_size or get_or b 0 0 is_not s.first_byte
-    ∷ Refused Refusal.TooManyMotors when count_in b above places
-    ∷ Refused Refusal.WrongFormLength when length b is_not form_length s (count_in b)
-    ∷ Refused Refusal.BadContents when fails (contents_right s (count_in b) b)
-    ∷ Refused Refusal.BadBody when fails (bodies_right s (count_in b) b)
+    Err Refusal.BrokenRegister when n is_not places
+    ∷ Err Refusal.NotFormOne when length b below head_size or get_or b 0 0 is_not s.first_byte
+    ∷ Err Refusal.TooManyMotors when count_in b above places
+    ∷ Err Refusal.WrongFormLength when length b is_not form_length s (count_in b)
+    ∷ Err Refusal.BadContents when fails (contents_right s (count_in b) b)
+    ∷ Err Refusal.BadBody when fails (bodies_right s (count_in b) b)
     ∷ []
 
 -- The first reason that applies, or the number of motors.
 unfoldable pub checked : Shape → ℕ → List ℕ → Answer
-checked s n b = decide (read_table s n b) (Count (count_in b))
+checked s n b = decide (read_table s n b) (Ok (count_in b))
 
 -- The motors of the form are held, or every place is as it was.
 abbrev pub read_by : Shape → List Motor → List ℕ → Answer → Next
-read_by s run b (Count n) = keeping (motors_in s b)
-read_by s run b (Refused r) = refusing run r
+read_by s run b (Ok n) = keeping (motors_in s b)
+read_by s run b (Err r) = refusing run r
 
 -- What stands at a place when a form of so many motors is read: the motor of its entry and body, behind the last one
 -- zeros. Bytes of another length hold no motor.
@@ -60,10 +59,10 @@ place_in count b at = place_of form_one count b at
 
 -- The form is not read.
 abbrev pub is_refusal : Answer → Bool
-is_refusal (Count n) = false
-is_refusal (Refused r) = true
+is_refusal (Ok n) = false
+is_refusal (Err r) = true
 
 -- The number of motors read.
 abbrev pub counted_in : Answer → ℕ
-counted_in (Count n) = n
-counted_in (Refused r) = 0
+counted_in (Ok n) = n
+counted_in (Err r) = 0

@@ -1,6 +1,6 @@
 -- Writing stored form 1 (document 01, rows 19 and 45): the answer, and what then stands in the lent buffer.
 -- Assumes nothing.
-use Rattle.std.specs.Prelude.{if◌then◌else◌, ℕ, zero, suc, Bool, true, false, List, [], ◌∷◌, ◌++◌, leb, ltb, length, get_or, take, drop}
+use Rattle.std.specs.Prelude.{if◌then◌else◌, ℕ, zero, suc, Bool, true, false, List, [], ◌∷◌, ◌++◌, leb, ltb, length, get_or, take, drop, Result, Ok, Err}
 use Rattle.meaning.specs.Tests.{◌below◌, ◌above◌, fails}
 use Rattle.meaning.specs.Tables.{Row, ◌when◌, decide}
 use Rattle.refusal.specs.declared.Refusal.{Refusal}
@@ -13,46 +13,48 @@ use Rattle.motors.specs.declared.motor.Motor.{Motor}
 use Rattle.form.specs.Shape.{Shape}
 use Rattle.form.specs.Layout.{form_length, entry_place, body_place, head_bytes, entry_of, form_of}
 use Rattle.form.specs.FormOne.{form_one}
-use Rattle.form.specs.declared.writing.Written.{Written}
-use Rattle.form.specs.declared.writing.Written.TheVariants.{Bytes, Refused}
 
 -- ---- the answer
+-- What writing a form answers: the number of its bytes, or a refusal.
+abbrev pub Written : Type 0
+Written = Result ℕ Refusal
+
 -- Why a form is not written: rows 19 and 45.
 abbrev pub write_form_table : List Motor → ℕ → ℕ → List (Row Written)
 write_form_table run count room =
-    Refused Refusal.BrokenRegister when fails (sound_of run count)
-    ∷ Refused Refusal.NoRoomForForm when room below form_length form_one count
+    Err Refusal.BrokenRegister when fails (sound_of run count)
+    ∷ Err Refusal.NoRoomForForm when room below form_length form_one count
     ∷ []
 
 -- The first reason that applies, or the number of bytes.
 unfoldable pub written_of : List Motor → ℕ → ℕ → Written
-written_of run count room = decide (write_form_table run count room) (Bytes (form_length form_one count))
+written_of run count room = decide (write_form_table run count room) (Ok (form_length form_one count))
 
 -- The same by what a lookup in the run found; a count that no register has is row 19 too.
 abbrev pub room_table : ℕ → ℕ → List (Row Written)
 room_table count room =
-    Refused Refusal.BrokenRegister when count above places
-    ∷ Refused Refusal.NoRoomForForm when room below form_length form_one count
+    Err Refusal.BrokenRegister when count above places
+    ∷ Err Refusal.NoRoomForForm when room below form_length form_one count
     ∷ []
 
 unfoldable pub room_for : ℕ → ℕ → Written
-room_for count room = decide (room_table count room) (Bytes (form_length form_one count))
+room_for count room = decide (room_table count room) (Ok (form_length form_one count))
 
 abbrev pub room_of : Found → ℕ → ℕ → Written
-room_of Broken count room = Refused Refusal.BrokenRegister
+room_of Broken count room = Err Refusal.BrokenRegister
 room_of (Held place) count room = room_for count room
 room_of (New place) count room = room_for count room
 
 -- The form is not written.
 abbrev pub is_refused : Written → Bool
-is_refused (Bytes n) = false
-is_refused (Refused r) = true
+is_refused (Ok n) = false
+is_refused (Err r) = true
 
 -- ---- the buffer
 -- The form's own bytes from the start, and nothing else changed; a refusal changes no byte.
 abbrev pub laid : Written → List Motor → ℕ → List ℕ → List ℕ
-laid (Bytes n) run count buffer = over (form_of form_one (held run count)) buffer
-laid (Refused r) run count buffer = buffer
+laid (Ok n) run count buffer = over (form_of form_one (held run count)) buffer
+laid (Err r) run count buffer = buffer
 
 abbrev pub buffer_after : List Motor → ℕ → List ℕ → List ℕ
 buffer_after run count buffer = laid (written_of run count (length buffer)) run count buffer

@@ -2,75 +2,61 @@
 ghost use Rattle.std.specs.Prelude.{◌≡◌};
 ghost use Rattle.form.specs.Reading.{check_of, place_in, is_refusal, counted_in};
 
-use crate::bodies::{bodies_right, motor};
 use crate::bytes::pair;
-use crate::contents::contents_right;
-use crate::places::{FIRST, HEAD, form_length};
-use motors::{Answer, Motor, PLACES};
+use crate::form::Form;
+use crate::places::FIRST;
+use motors::{Motor, PLACES};
 use refusal::Refusal;
 
-// Rows 19 and 40 to 44, in their order, or the number of motors.
+// The number of motors; or rows 19 and 40 to 44, in their order.
 #[tactic(auto, unfolding(crate::specs::Reading::checked))]
-pub fn check(places: usize, bytes: &[u8]) -> Answer
+pub fn check(places: usize, bytes: &[u8]) -> Result<usize, Refusal>
     ensures { result ≡ check_of places bytes.now }
 {
     if places != PLACES {
-        return Answer::Refused(Refusal::BrokenRegister);
+        return Err(Refusal::BrokenRegister);
     }
-    if bytes.len() < HEAD {
-        return Answer::Refused(Refusal::NotFormOne);
-    }
-    if bytes[0] != FIRST {
-        return Answer::Refused(Refusal::NotFormOne);
-    }
-    let count = pair(bytes[1], bytes[2]);
+    let [FIRST, low, high, ..] = bytes else {
+        return Err(Refusal::NotFormOne);
+    };
+    let count = pair(*low, *high);
     if count > PLACES {
-        return Answer::Refused(Refusal::TooManyMotors);
+        return Err(Refusal::TooManyMotors);
     }
-    if bytes.len() != form_length(count) {
-        return Answer::Refused(Refusal::WrongFormLength);
+    let Some(form) = Form::new(bytes, count) else {
+        return Err(Refusal::WrongFormLength);
+    };
+    if !form.contents_right() {
+        return Err(Refusal::BadContents);
     }
-    if !contents_right(bytes, count) {
-        return Answer::Refused(Refusal::BadContents);
+    if !form.bodies_right() {
+        return Err(Refusal::BadBody);
     }
-    if !bodies_right(bytes, count) {
-        return Answer::Refused(Refusal::BadBody);
-    }
-    Answer::Count(count)
+    Ok(count)
 }
 
 // What stands at a place when a form of so many motors is read. Bytes of another length hold no motor.
-#[tactic(auto, using(crate::proofs::Placed::zeros_laws))]
+#[tactic(auto, using(crate::proofs::Placed::place_laws))]
 pub fn place(bytes: &[u8], count: usize, at: usize) -> Motor
     ensures { result ≡ place_in count bytes.now at }
 {
-    if count > PLACES {
-        return motors::unread(0, 0);
+    match Form::new(bytes, count) {
+        Some(form) if at < count => form.motor(at),
+        _ => motors::unread(0, 0),
     }
-    if bytes.len() != form_length(count) {
-        return motors::unread(0, 0);
-    }
-    if at >= count {
-        return motors::unread(0, 0);
-    }
-    motor(bytes, count, at)
 }
 
-pub fn refuses(answer: Answer) -> bool
+// Stays: a public function, of which the promise `refuses_is` speaks; who reads a form goes by `?`.
+pub fn refuses(answer: Result<usize, Refusal>) -> bool
     ensures { result ≡ is_refusal answer }
 {
-    match answer {
-        Answer::Count(_) => false,
-        Answer::Refused(_) => true,
-    }
+    answer.is_err()
 }
 
 // The motors in a form that is read; in one that is refused, none.
-pub fn counted(answer: Answer) -> usize
+// Stays: a public function, of which the promise `counted_is` speaks.
+pub fn counted(answer: Result<usize, Refusal>) -> usize
     ensures { result ≡ counted_in answer }
 {
-    match answer {
-        Answer::Count(count) => count,
-        Answer::Refused(_) => 0,
-    }
+    answer.unwrap_or(0)
 }

@@ -1,63 +1,50 @@
 // Writing stored form 1 from the start of a lent buffer.
-ghost use Rattle.std.specs.Prelude.{◌≡◌};
-ghost use Rattle.form.specs.FormOne.{form_one};
+ghost use Rattle.std.specs.Prelude.{◌≡◌, ◌<◌};
+ghost use Rattle.form.specs.Layout.{entry_bytes};
+ghost use Rattle.form.specs.FormOne.{form_one, reading_bytes};
 ghost use Rattle.form.specs.Writing.{room_of, room_for, is_refused, fits, head_laid, motor_laid};
 
-use crate::bodies::body_bytes;
-use crate::bytes::{high, low, put};
-use crate::contents::entry_bytes;
-use crate::places::{FIRST, body_place, entry_place, form_length};
+use crate::bytes::put;
+use crate::places::{BODY, ENTRY, FIRST, body_place, entry_place, form_length};
+use frame::Address;
 use motors::{Found, Motor, PLACES};
 use refusal::Refusal;
 
-#[derive(Clone, Copy)]
-pub enum Written {
-    // The form is written; so many bytes.
-    Bytes(usize),
-    Refused(Refusal),
-}
-
-// Row 19, by what a lookup in the run found, then 45.
-pub fn room(found: Found, count: usize, room: usize) -> Written
+// How many bytes the form is; or row 19, by what a lookup in the run found, then 45.
+pub fn room(found: Found, count: usize, room: usize) -> Result<usize, Refusal>
     ensures { result ≡ room_of found count room }
 {
     match found {
-        Found::Broken => Written::Refused(Refusal::BrokenRegister),
-        Found::Held(_) => room_for(count, room),
-        Found::New(_) => room_for(count, room),
+        Found::Broken => Err(Refusal::BrokenRegister),
+        Found::Held(_) | Found::New(_) => room_for(count, room),
     }
 }
 
 #[tactic(auto, unfolding(crate::specs::Writing::room_for))]
-fn room_for(count: usize, room: usize) -> Written
+fn room_for(count: usize, room: usize) -> Result<usize, Refusal>
     ensures { result ≡ room_for count room }
 {
     if count > PLACES {
-        return Written::Refused(Refusal::BrokenRegister);
+        return Err(Refusal::BrokenRegister);
     }
     if room < form_length(count) {
-        return Written::Refused(Refusal::NoRoomForForm);
+        return Err(Refusal::NoRoomForForm);
     }
-    Written::Bytes(form_length(count))
+    Ok(form_length(count))
 }
 
-pub fn is_refused(written: Written) -> bool
+// Stays: a public function, of which the promise `is_refused_is` speaks; who writes a form goes by `?`.
+pub fn is_refused(written: Result<usize, Refusal>) -> bool
     ensures { result ≡ is_refused written }
 {
-    match written {
-        Written::Bytes(_) => false,
-        Written::Refused(_) => true,
-    }
+    written.is_err()
 }
 
 // A buffer without room for a form of so many motors is left as it is.
 fn fits(count: usize, room: usize) -> bool
     ensures { result ≡ fits form_one count room }
 {
-    if count > PLACES {
-        return false;
-    }
-    form_length(count) <= room
+    count <= PLACES && form_length(count) <= room
 }
 
 // The first byte and the count, if the buffer has room for the form.
@@ -68,8 +55,8 @@ pub fn lay_head(buffer: &mut [u8], count: usize)
     if !fits(count, buffer.len()) {
         return;
     }
-    let head = [FIRST, low(count), high(count)];
-    put(buffer, 0, &head);
+    let [low, high] = (count as u16).to_le_bytes();
+    put(buffer, 0, &[FIRST, low, high]);
 }
 
 // The entry and the body of the motor at a place of a form, if the form has the place and the buffer room for it.
@@ -77,15 +64,31 @@ pub fn lay_head(buffer: &mut [u8], count: usize)
 pub fn lay_motor(buffer: &mut [u8], count: usize, at: usize, motor: Motor)
     ensures { buffer.new ≡ motor_laid count at motor buffer.old }
 {
-    if at >= count {
-        return;
-    }
-    if !fits(count, buffer.len()) {
+    if at >= count || !fits(count, buffer.len()) {
         return;
     }
     let place = body_place(count, at);
-    let entry = entry_bytes(motor, place);
-    put(buffer, entry_place(at), &entry);
-    let body = body_bytes(motor);
-    put(buffer, place, &body);
+    put(buffer, entry_place(at), &entry_bytes(motor, place));
+    put(buffer, place, &body_bytes(motor));
+}
+
+// Line, NodeID, place of the body from the form's start.
+fn entry_bytes(motor: Motor, place: usize) -> [u8; ENTRY]
+    requires { place < 65536 }
+    ensures { result ≡ entry_bytes motor place }
+{
+    let [first, second, third] = Address(motor.node).to_bytes();
+    let [low, high] = (place as u16).to_le_bytes();
+    [(motor.line % 256) as u8, first, second, third, low, high]
+}
+
+// 1 and the reading of a motor, or five zeros.
+fn body_bytes(motor: Motor) -> [u8; BODY]
+    ensures { result ≡ reading_bytes motor }
+{
+    if motor.mark != 1 {
+        return [0; BODY];
+    }
+    let [low, high] = motor.pulse.to_le_bytes();
+    [1, low, high, motor.percent, motor.ip]
 }

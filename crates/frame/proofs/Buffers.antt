@@ -13,53 +13,51 @@ use Rattle.refusal.specs.Number.{number_of}
 use Rattle.refusal.specs.declared.Refusal.{Refusal}
 use Rattle.frame.specs.Layout.{header_of, data_of}
 use Rattle.frame.specs.Reading.{IsFrame, reading_of}
-use Rattle.frame.specs.Writing.{writer_table, writing_of, Writable, refused_by, buffer_after, over, frame_of}
+use Rattle.frame.specs.Writing.{writer_table, writing_of, Writable, refused_by, buffer_after, over, frame_of, Writing}
 use Rattle.frame.specs.declared.header.Header.{Header}
-use Rattle.frame.specs.declared.reading.Reading.TheVariants.{Frame}
-use Rattle.frame.specs.declared.writing.Writing.{Writing}
-use Rattle.frame.specs.declared.writing.Writing.TheVariants.{Next, Refused}
 use Rattle.frame.proofs.Rows.{told}
 use Rattle.frame.proofs.Content.{length_data}
 use Rattle.frame.proofs.Frames.{frame_is_read}
 use Rattle.frame.proofs.Over.{length_over_at}
 use Rattle.frame.proofs.ReadBack.{length_frame, written_is_a_frame, header_read_back, data_read_back}
 use Rattle.frame.proofs.WrittenAgain.{written_again}
+use Rattle.std.specs.Prelude.{Ok, Err}
 
 module _ (room place : ℕ) (h : Header) (d : List ℕ) where
-  pub writable_is_written : Writable room place h d → writing_of room place h d ≡ Next (place + (11 + length d))
+  pub writable_is_written : Writable room place h d → writing_of room place h d ≡ Ok (place + (11 + length d))
   unfolding writing_of
-  writable_is_written w = no_row_applies (writer_table room place h d) (Next (place + (11 + length d))) (search arith)
+  writable_is_written w = no_row_applies (writer_table room place h d) (Ok (place + (11 + length d))) (search arith)
 
   -- Each row of the table has one of the writer's numbers, and where none applies all is in range.
   by_number : Writable room place h d ⊎ ((10 ≤ refused_by (writing_of room place h d)) × (refused_by (writing_of room place h d) ≤ 14))
   unfolding writing_of
   by_number =
       ⊎_elim (λ facts. inl (search arith)) inr
-      (passed_or_answered (λ (a : Writing). (10 ≤ refused_by a) × (refused_by a ≤ 14)) (writer_table room place h d) (Next (place + (11 + length d)))
+      (passed_or_answered (λ (a : Writing). (10 ≤ refused_by a) × (refused_by a ≤ 14)) (writer_table room place h d) (Ok (place + (11 + length d)))
       (search arith))
 
   pub written_exactly_when : Writable room place h d ↔ (refused_by (writing_of room place h d) ≡ 0)
   written_exactly_when = (λ w. ap refused_by (writable_is_written w), λ e. ⊎_elim (λ w. w) (λ l. absurd (omega arith)) by_number)
 
-  numbered : (a : Writing) → (10 ≤ refused_by a) × (refused_by a ≤ 14) → (q : Refusal) × (a ≡ Refused q) × (10 ≤ number_of q) × (number_of q ≤ 14)
-  numbered (Next n) l = absurd (omega arith)
-  numbered (Refused q) l = (q, refl, l.0, l.1)
+  numbered : (a : Writing) → (10 ≤ refused_by a) × (refused_by a ≤ 14) → (q : Refusal) × (a ≡ Err q) × (10 ≤ number_of q) × (number_of q ≤ 14)
+  numbered (Ok n) l = absurd (omega arith)
+  numbered (Err q) l = (q, refl, l.0, l.1)
 
   pub not_written_otherwise : ¬ Writable room place h d
-      → (q : Refusal) × (writing_of room place h d ≡ Refused q) × (10 ≤ number_of q) × (number_of q ≤ 14)
+      → (q : Refusal) × (writing_of room place h d ≡ Err q) × (10 ≤ number_of q) × (number_of q ≤ 14)
   not_written_otherwise n = ⊎_elim (λ w. absurd (n w)) (numbered (writing_of room place h d)) by_number
 
 -- A refusal changes no byte of the buffer.
-pub refused_writes_nothing : (buffer : List ℕ) (place : ℕ) (h : Header) (d : List ℕ) (q : Refusal) → writing_of (length buffer) place h d ≡ Refused q
+pub refused_writes_nothing : (buffer : List ℕ) (place : ℕ) (h : Header) (d : List ℕ) (q : Refusal) → writing_of (length buffer) place h d ≡ Err q
     → buffer_after buffer place h d ≡ buffer
-refused_writes_nothing buffer place h d q e = sym (told buffer place h d (Refused q) e).1
+refused_writes_nothing buffer place h d q e = sym (told buffer place h d (Err q) e).1
 
 module _ (buffer : List ℕ) (place : ℕ) (h : Header) (d : List ℕ) (w : Writable (length buffer) place h d) where
   abbrev size : ℕ
   size = 11 + length d
 
   after_is : buffer_after buffer place h d ≡ take place buffer ++ over (frame_of h d) (drop place buffer)
-  after_is = sym (told buffer place h d (Next (place + size)) (writable_is_written (length buffer) place h d w)).1
+  after_is = sym (told buffer place h d (Ok (place + size)) (writable_is_written (length buffer) place h d w)).1
 
   length_before : length (take place buffer) ≡ place
   length_before = length-take-le place buffer (omega arith)
@@ -86,11 +84,11 @@ module _ (buffer : List ℕ) (place : ℕ) (h : Header) (d : List ℕ) (w : Writ
 
   -- Reading what was written gives what was given, whatever stood in the buffer before, and wherever it was written.
   pub read_of_written : h.message < 256 → Bytes d
-      → (reading_of (take size (drop place (buffer_after buffer place h d))) ≡ Frame h (length d))
+      → (reading_of (take size (drop place (buffer_after buffer place h d))) ≡ Ok (h, length d))
       × (data_of (take size (drop place (buffer_after buffer place h d))) ≡ d)
   read_of_written m b =
       rw stands_there (
-        frame_is_read (frame_of h d) (written_is_a_frame h d w m b) ∙ rw (header_read_back h d w m b, length_frame h d) (ap (Frame h) (omega arith)),
+        frame_is_read (frame_of h d) (written_is_a_frame h d w m b) ∙ rw (header_read_back h d w m b, length_frame h d) (ap (λ (n : ℕ). Ok (h, n)) (omega arith)),
         data_read_back h d w m b,
       )
 

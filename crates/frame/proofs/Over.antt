@@ -5,8 +5,8 @@ use native.Mathlib.Omega.{arith}
 use native.Mathlib.Numerals.{add-one}
 use mathlib.Core.Path.{◌≡◌, ◌∙◌}
 use mathlib.Core.List.{List, [], ◌∷◌, ◌++◌, map, append-nil, append_assoc, map-append}
-use lib.ListN.{length, get_or, take, drop, set, length-append, length-drop, length-take, drop_of_length-le}
-use lib.Seq.{take-suc, take_all, take-append_seam, drop-append_seam, drop-cons, drop-drop, set-append_seam}
+use lib.ListN.{length, get_or, take, drop, set, length-append, length-drop, length-map, length-take, drop_of_length-le}
+use lib.Seq.{take-suc, length-take-le, take_all, take-append_seam, drop-append_seam, drop-cons, drop-drop, set-append_seam}
 use Rattle.frame.specs.Writing.{over}
 
 module _ (w run : List ℕ) where
@@ -36,5 +36,8 @@ pub on_top : (run w v whole part : List ℕ) (at : ℕ) → length w ≡ at → 
 on_top run w v whole part at n h e p = lent_on whole v part at p ∙ rw (e, ← n) (over_on w run v (omega arith))
 
 -- One byte more of the bytes that go through `f`.
-pub map_more : (f : ℕ → ℕ) (l : List ℕ) (i : ℕ) → i < length l → map f (take (i + 1) l) ≡ map f (take i l) ++ f (get_or l i 0) ∷ []
-map_more f l i h = rw (add-one, take-suc l i 0 h) (map-append f (take i l) (get_or l i 0 ∷ []))
+pub mapped_more : (f : ℕ → ℕ) (raw run : List ℕ) (i : ℕ) → i < length raw → length raw ≤ length run
+    → set (over (map f (take i raw)) run) i (f (get_or raw i 0)) ≡ over (map f (take (i + 1) raw)) run
+mapped_more f raw run i h l =
+    rw (add-one i, take-suc raw i 0 h, map-append f (take i raw) (get_or raw i 0 ∷ []))
+    (over_more (map f (take i raw)) run (f (get_or raw i 0)) i (simp length-map (length-take-le i raw (omega arith))) (omega arith))

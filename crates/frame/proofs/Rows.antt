@@ -7,17 +7,15 @@ use lib.ListN.{length}
 use Rattle.meaning.specs.Tables.{Applies, answer_at, decided}
 use Rattle.frame.specs.Layout.{header_of, data_count}
 use Rattle.frame.specs.Reading.{bundle_table, reading_of}
-use Rattle.frame.specs.Writing.{frame_of, writer_table, writing_of, laid, buffer_after}
+use Rattle.frame.specs.Writing.{frame_of, writer_table, writing_of, laid, buffer_after, Writing}
 use Rattle.frame.specs.declared.header.Header.{Header}
-use Rattle.frame.specs.declared.reading.Reading.TheVariants.{Frame}
-use Rattle.frame.specs.declared.writing.Writing.{Writing}
-use Rattle.frame.specs.declared.writing.Writing.TheVariants.{Next}
+use Rattle.std.specs.Prelude.{Ok}
 
 -- The reader's.
 pub read_by : (b : List ℕ) (passed : ℕ) → Applies passed (bundle_table b)
-    → answer_at passed (bundle_table b) (Frame (header_of b) (data_count b)) ≡ reading_of b
+    → answer_at passed (bundle_table b) (Ok (header_of b, data_count b)) ≡ reading_of b
 unfolding reading_of
-read_by b passed facts = sym (decided passed (bundle_table b) (Frame (header_of b) (data_count b)) facts)
+read_by b passed facts = sym (decided passed (bundle_table b) (Ok (header_of b, data_count b)) facts)
 
 module _ (buffer : List ℕ) (place : ℕ) (h : Header) (d : List ℕ) where
   -- The writer's answer decides what stands in the buffer.
@@ -28,8 +26,8 @@ module _ (buffer : List ℕ) (place : ℕ) (h : Header) (d : List ℕ) where
   told a e = (sym e, ap (λ (x : Writing). laid x buffer place (frame_of h d)) (sym e))
 
   pub written_by : (passed : ℕ) → Applies passed (writer_table (length buffer) place h d)
-      → Told (answer_at passed (writer_table (length buffer) place h d) (Next (place + (11 + length d))))
+      → Told (answer_at passed (writer_table (length buffer) place h d) (Ok (place + (11 + length d))))
   unfolding writing_of
   written_by passed facts =
-      told (answer_at passed (writer_table (length buffer) place h d) (Next (place + (11 + length d))))
-      (decided passed (writer_table (length buffer) place h d) (Next (place + (11 + length d))) facts)
+      told (answer_at passed (writer_table (length buffer) place h d) (Ok (place + (11 + length d))))
+      (decided passed (writer_table (length buffer) place h d) (Ok (place + (11 + length d))) facts)

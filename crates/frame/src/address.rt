@@ -2,7 +2,7 @@
 ghost use Rattle.std.specs.Prelude.{◌≡◌, eqb};
 ghost use Rattle.frame.specs.Address.{address_of, bytes_of, group, broadcast, a_node_id};
 
-#[derive(Clone, Copy)]
+#[derive(Clone, Copy, PartialEq, Eq)]
 pub struct Address(pub u32);
 
 impl Address {
@@ -16,17 +16,14 @@ impl Address {
     pub fn from_bytes(low: u8, middle: u8, high: u8) -> Address
         ensures { result ≡ address_of low middle high }
     {
-        Address(low as u32 + 256 * (middle as u32) + 65536 * (high as u32))
+        Address(u32::from_le_bytes([low, middle, high, 0]))
     }
 
     // The three bytes of an address, the low byte first; a number over FFFFFFh is no address, and its low three bytes are given.
     pub fn to_bytes(self) -> [u8; 3]
         ensures { result ≡ bytes_of self }
     {
-        let number = self.0;
-        let low = (number % 256) as u8;
-        let middle = (number / 256 % 256) as u8;
-        let high = (number / 65536 % 256) as u8;
+        let [low, middle, high, _] = self.0.to_le_bytes();
         [low, middle, high]
     }
 
@@ -34,21 +31,19 @@ impl Address {
     pub fn is_node_id(self) -> bool
         ensures { result ≡ (a_node_id self).holds }
     {
-        if self.0 < 1 {
-            return false;
-        }
-        self.0 <= 0xFF_FEFF
+        (0x00_0001..=0xFF_FEFF).contains(&self.0)
     }
 
+    // Stays: this and the one below ask for the two marks that document 01 names, by their constants.
     pub fn is_group(self) -> bool
         ensures { result ≡ eqb self.0 group.0 }
     {
-        self.0 == Address::GROUP.0
+        self == Address::GROUP
     }
 
     pub fn is_broadcast(self) -> bool
         ensures { result ≡ eqb self.0 broadcast.0 }
     {
-        self.0 == Address::BROADCAST.0
+        self == Address::BROADCAST
     }
 }

@@ -8,7 +8,7 @@ pub(crate) const MOST_DATA: usize = 20;
 
 pub(crate) const LONGEST: usize = 31;
 
-#[derive(Clone, Copy)]
+#[derive(Clone, Copy, PartialEq, Eq)]
 pub struct Header {
     // MSG.
     pub message: u8,

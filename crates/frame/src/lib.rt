@@ -10,6 +10,6 @@ mod writing;
 
 pub use address::Address;
 pub use header::Header;
-pub use reading::{Reading, data_byte, data_count, read};
+pub use reading::{data_byte, data_count, read};
 pub use words::word;
-pub use writing::{Writing, write};
+pub use writing::write;

@@ -8,59 +8,51 @@ use crate::header::{BESIDE_DATA, Header, LONGEST};
 use crate::sum::sum;
 use refusal::Refusal;
 
-#[derive(Clone, Copy)]
-pub enum Reading {
-    // A frame: its header, and how many bytes of DATA it has.
-    Frame(Header, usize),
-    Refused(Refusal),
-}
-
-// Rows 1 to 6, in their order.
-pub fn read(bundle: &[u8]) -> Reading
+// The frame's header, and how many bytes of DATA it has; or rows 1 to 6, in their order.
+pub fn read(bundle: &[u8]) -> Result<(Header, usize), Refusal>
     ensures { result ≡ reading_of bundle.now }
 {
     let count = bundle.len();
     if count < BESIDE_DATA {
-        return Reading::Refused(Refusal::TooShort);
+        return Err(Refusal::TooShort);
     }
     if count > LONGEST {
-        return Reading::Refused(Refusal::TooLong);
+        return Err(Refusal::TooLong);
     }
     let length = !bundle[1];
     if length / 32 % 4 != 0 {
-        return Reading::Refused(Refusal::Extended);
+        return Err(Refusal::Extended);
     }
-    if (length % 32) as usize != count {
-        return Reading::Refused(Refusal::WrongLength);
+    if usize::from(length % 32) != count {
+        return Err(Refusal::WrongLength);
     }
     let body = count - 2;
     if sum(&bundle[..body]) != pair(bundle[body], bundle[count - 1]) {
-        return Reading::Refused(Refusal::WrongChecksum);
+        return Err(Refusal::WrongChecksum);
     }
     if !bundle[0] == 255 {
-        return Reading::Refused(Refusal::ReservedMessage);
+        return Err(Refusal::ReservedMessage);
     }
-    Reading::Frame(header(bundle), count - BESIDE_DATA)
+    Ok((header(bundle), count - BESIDE_DATA))
 }
 
 // How many bytes of DATA a bundle has room for between its header and its checksum.
 pub fn data_count(bundle: &[u8]) -> usize
     ensures { result ≡ data_count bundle.now }
 {
-    if bundle.len() < BESIDE_DATA {
-        return 0;
-    }
-    bundle.len() - BESIDE_DATA
+    bundle.len().saturating_sub(BESIDE_DATA)
 }
 
 // A byte of a bundle's DATA, counted from 0; 0 past its end.
+#[tactic(auto, using(crate::proofs::Content::data_at))]
 pub fn data_byte(bundle: &[u8], index: usize) -> u8
     ensures { result ≡ get_or (data_of bundle.now) index 0 }
 {
     if index < data_count(bundle) {
-        return !bundle[9 + index];
+        !bundle[9 + index]
+    } else {
+        0
     }
-    0
 }
 
 fn header(bundle: &[u8]) -> Header
@@ -79,8 +71,9 @@ fn header(bundle: &[u8]) -> Header
 }
 
 // Two bytes as one number, the high byte first.
+// Stays: no twin of `word`, since the byte order differs: the checksum alone has its high byte first.
 fn pair(high: u8, low: u8) -> u16
     ensures { result ≡ high * 256 + low }
 {
-    high as u16 * 256 + low as u16
+    u16::from_be_bytes([high, low])
 }

@@ -6,5 +6,5 @@ ghost use Rattle.frame.specs.Words.{word_of};
 pub fn word(low: u8, high: u8) -> u16
     ensures { result ≡ word_of low high }
 {
-    low as u16 + 256 * (high as u16)
+    u16::from_le_bytes([low, high])
 }

@@ -12,3 +12,4 @@ pub mod Sense
 pub mod Demand3
 pub mod Examples
 pub mod Determined
+pub mod Silences

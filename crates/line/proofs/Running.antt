@@ -11,20 +11,19 @@ use borrow.Author.Tests.{ltb-true, ltb-false}
 use lib.Dec.{ltb}
 use lib.ListN.{length, get_or, take, drop, drop_of_length-le}
 use lib.Seq.{drop-cons}
-use Rattle.frame.specs.Reading.{reading_of}
-use Rattle.frame.specs.declared.reading.Reading.{Reading}
+use Rattle.frame.specs.Reading.{reading_of, Reading}
 use Rattle.line.specs.Reader.{joined, stepped, ran, goes_on, answered_by, ended_with, step_of, run_of, no_bytes}
 use Rattle.line.specs.declared.reader.Reader.{Reader}
 use Rattle.line.specs.declared.reader.Stepped.{Stepped}
-use Rattle.line.specs.declared.reader.Answer.TheVariants.{Nothing}
 use Rattle.line.proofs.Joining.{joined_open, stays_open}
 use Rattle.line.proofs.Sound.{Sound, goes_on_lem, sound_joined}
 use Rattle.line.proofs.Steps.{ended_too_long, ended_read}
+use Rattle.std.specs.Prelude.{Ok, Err, None}
 
 -- A bundle that is not empty is answered when it ends.
 answered : (q : Reading) (kept : List ℕ) (next : Reader) → goes_on (answered_by q kept next).answer ≡ false
-answered (Reading.Frame h n) kept next = refl
-answered (Reading.Refused r) kept next = refl
+answered (Ok (h, n)) kept next = refl
+answered (Err r) kept next = refl
 
 pub ended_stops : (r next : Reader) → r.count ≢ 0 → goes_on (ended_with r next).answer ≡ false
 ended_stops r next n = go (ltb 31 r.count) refl
@@ -35,7 +34,7 @@ ended_stops r next n = go (ltb 31 r.count) refl
 
 module _ (r : Reader) (bytes silences : List ℕ) (i : ℕ) where
   pub one_more : (next : Reader) → i < length bytes → length bytes ≡ length silences
-      → step_of r (get_or bytes i 0) (get_or silences i 0) ≡ stepped next Nothing no_bytes
+      → step_of r (get_or bytes i 0) (get_or silences i 0) ≡ stepped next (Ok None) no_bytes
       → run_of r (drop i bytes) (drop i silences) i ≡ run_of next (drop (i + 1) bytes) (drop (i + 1) silences) (i + 1)
   unfolding run_of
   one_more next h n e = rw (drop-cons bytes i 0 h, drop-cons silences i 0 (omega arith), add-one, e)
@@ -46,7 +45,7 @@ module _ (r : Reader) (bytes silences : List ℕ) (i : ℕ) where
   unfolding run_of
   last_one s h n e g = rw (drop-cons bytes i 0 h, drop-cons silences i 0 (omega arith), add-one, e, g)
 
-  pub at-end : length bytes ≤ i → run_of r (drop i bytes) (drop i silences) i ≡ ran (stepped r Nothing no_bytes) i
+  pub at-end : length bytes ≤ i → run_of r (drop i bytes) (drop i silences) i ≡ ran (stepped r (Ok None) no_bytes) i
   unfolding run_of
   at-end h = rw (drop_of_length-le bytes h)
 

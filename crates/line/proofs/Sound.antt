@@ -1,6 +1,6 @@
 -- A sound reader stays sound, and with no bundle open it is the fresh one.
 -- Assumes nothing.
-use Rattle.std.specs.Prelude.{if◌then◌else◌}
+use Rattle.std.specs.Prelude.{if◌then◌else◌, Ok, None}
 use Prim.Native.Nat.{ℕ, ◌+◌, ◌≤◌, ◌<◌}
 use native.Mathlib.Omega.{arith}
 use native.Mathlib.Numerals.{add-one}
@@ -8,15 +8,14 @@ use mathlib.Core.Path.{◌≡◌, refl, ◌∙◌}
 use mathlib.Core.Logic.{◌⊎◌, inl, inr}
 use mathlib.Core.Bool.{Bool, true, false}
 use mathlib.Core.List.{List, [], ◌∷◌, foldl}
-use borrow.Author.Tests.{leb-true, leb-false, le-leb, eqb-true, ltb-true}
-use lib.Dec.{leb, ltb, eqb}
-use lib.ListN.{length, drop, set, replicate, length-set}
+use borrow.Author.Tests.{leb-true, leb-false, le-leb, ltb-true}
+use lib.Dec.{leb, ltb}
+use lib.ListN.{length, drop, set, length-set}
 use lib.Seq.{drop-cons, drop-set-lt}
 use Rattle.line.specs.Telling.{Entry, after, reader_after}
 use Rattle.line.specs.Reader.{fresh, reader, begun, no_bytes, all_zeros, is_sound, joined, stepped, step_of}
 use Rattle.line.specs.declared.reader.Reader.{Reader}
-use Rattle.line.specs.declared.reader.Answer.TheVariants.{Nothing}
-use Rattle.line.proofs.Zeros.{zeros_end, both}
+use Rattle.line.proofs.Zeros.{zeros_end, both, zero_first, zeros_are}
 use Rattle.line.proofs.Steps.{ended_empty, goes_on_as, step-ends, step_joins}
 
 -- Row 9 as facts, and the length of the kept bytes, which the type says.
@@ -34,14 +33,6 @@ pub is_sound_lem : (r : Reader) → Sound r → is_sound r ≡ true
 is_sound_lem r s = rw (le-leb r.count 32 s.counted) s.zeros
 
 -- A list of zeros is so many zeros, and its rest is a list of zeros.
-zero_first : (x : ℕ) (l : List ℕ) → all_zeros (x ∷ l) ≡ true → (x ≡ 0) × (all_zeros l ≡ true)
-unfolding all_zeros
-zero_first x l e = let (z, t) = both (eqb x 0) (all_zeros l) e in (eqb-true x 0 z, t)
-
-zeros_are : (l : List ℕ) → all_zeros l ≡ true → l ≡ replicate (length l) 0
-zeros_are [] e = refl
-zeros_are (x ∷ l) e = let (z, t) = zero_first x l e in cc (zeros_are l t)
-
 zeros_later : (l : List ℕ) (i : ℕ) → i < length l → all_zeros (drop i l) ≡ true → all_zeros (drop (i + 1) l) ≡ true
 zeros_later l i h e = rw add-one (zero_first _ _ (rw (drop-cons l i 0 h) at e)).1
 
@@ -71,11 +62,11 @@ first_joins r byte s e =
     rw (e, z)
 
 pub goes_on_lem : (r : Reader) (byte silence : ℕ) → Sound r → (r.count ≡ 0) ⊎ (silence < 30)
-    → step_of r byte silence ≡ stepped (joined r byte) Nothing no_bytes
+    → step_of r byte silence ≡ stepped (joined r byte) (Ok None) no_bytes
 goes_on_lem r byte silence s (inr h) = step_joins r byte silence (is_sound_lem r s) h
 goes_on_lem r byte silence s (inl e) = go (leb 30 silence) refl
   where
-    go : (t : Bool) → leb 30 silence ≡ t → step_of r byte silence ≡ stepped (joined r byte) Nothing no_bytes
+    go : (t : Bool) → leb 30 silence ≡ t → step_of r byte silence ≡ stepped (joined r byte) (Ok None) no_bytes
     go true t = step-ends r byte silence (is_sound_lem r s) (leb-true 30 silence t) ∙ ended_empty r (begun byte) e ∙ rw (first_joins r byte s e)
     go false t = step_joins r byte silence (is_sound_lem r s) (leb-false 30 silence t)
 

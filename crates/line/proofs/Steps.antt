@@ -10,36 +10,19 @@ use lib.ListN.{length, take, drop}
 use lib.Dec.{eqb, ltb}
 use Rattle.meaning.specs.Choice.{either}
 use Rattle.refusal.specs.declared.Refusal.{Refusal}
-use Rattle.frame.specs.Reading.{reading_of}
-use Rattle.frame.specs.declared.reading.Reading.{Reading}
+use Rattle.frame.specs.Reading.{reading_of, Reading}
 use Rattle.line.specs.Telling.{said}
 use Rattle.line.specs.declared.reader.Stepped.{Stepped}
-use Rattle.line.specs.Reader.{
-  is_sound,
-  ended_with,
-  answered_by,
-  broken,
-  begun,
-  joined,
-  fresh,
-  stepped,
-  step_of,
-  close_of,
-  refusing,
-  run_of,
-  ran_of,
-  no_bytes,
-}
+use Rattle.line.specs.Reader.{is_sound, ended_with, answered_by, broken, begun, joined, fresh, stepped, step_of, close_of, refusing, run_of, ran_of, no_bytes, Answer}
 use Rattle.line.specs.declared.reader.Reader.{Reader}
-use Rattle.line.specs.declared.reader.Answer.{Answer}
-use Rattle.line.specs.declared.reader.Answer.TheVariants.{Nothing, Frame, Refused}
+use Rattle.std.specs.Prelude.{Ok, Err, Some, None}
 
 module _ (r next : Reader) where
-  pub ended_empty : r.count ≡ 0 → ended_with r next ≡ stepped next Nothing no_bytes
+  pub ended_empty : r.count ≡ 0 → ended_with r next ≡ stepped next (Ok None) no_bytes
   unfolding ended_with
   ended_empty e = rw (eq-eqb r.count 0 e)
 
-  pub ended_too_long : r.count ≢ 0 → 31 < r.count → ended_with r next ≡ stepped next (Refused Refusal.TooLong) no_bytes
+  pub ended_too_long : r.count ≢ 0 → 31 < r.count → ended_with r next ≡ stepped next (Err Refusal.TooLong) no_bytes
   unfolding ended_with
   ended_too_long n h = rw (ne_eqb r.count 0 n, lt-ltb 31 r.count h)
 
@@ -54,8 +37,8 @@ ended_as r next n h e = sym (ended_read r next n h ∙ ap (λ (p : Reading). ans
 
 -- The reader goes on as the next, and what is told does not depend on it.
 next_of : (q : Reading) (kept : List ℕ) (next : Reader) → (answered_by q kept next).reader ≡ next
-next_of (Reading.Frame h n) kept next = refl
-next_of (Reading.Refused r) kept next = refl
+next_of (Ok (h, n)) kept next = refl
+next_of (Err r) kept next = refl
 
 pub goes_on_as : (r next : Reader) → (ended_with r next).reader ≡ next
 unfolding ended_with
@@ -65,8 +48,8 @@ goes_on_as r next =
     next_of (reading_of (take r.count r.kept)) r.kept next
 
 same_told : (q : Reading) (kept : List ℕ) (next other : Reader) → said (answered_by q kept next) ≡ said (answered_by q kept other)
-same_told (Reading.Frame h n) kept next other = refl
-same_told (Reading.Refused r) kept next other = refl
+same_told (Ok (h, n)) kept next other = refl
+same_told (Err r) kept next other = refl
 
 pub told_alike : (r next other : Reader) → said (ended_with r next) ≡ said (ended_with r other)
 told_alike r next other = go (eqb r.count 0) refl (ltb 31 r.count) refl
@@ -83,13 +66,13 @@ told_alike r next other = go (eqb r.count 0) refl (ltb 31 r.count) refl
 
 -- The answer says what stands beside it: a frame has its bytes, and any other answer none.
 abbrev pub beside : Answer → List ℕ → Reader → Stepped
-beside Nothing kept next = stepped next Nothing no_bytes
-beside (Frame h n) kept next = stepped next (Frame h n) kept
-beside (Refused q) kept next = stepped next (Refused q) no_bytes
+beside (Ok None) kept next = stepped next (Ok None) no_bytes
+beside (Ok (Some (h, n))) kept next = stepped next (Ok (Some (h, n))) kept
+beside (Err q) kept next = stepped next (Err q) no_bytes
 
 same_answer : (q : Reading) (kept : List ℕ) (next other : Reader) → answered_by q kept next ≡ beside (answered_by q kept other).answer kept next
-same_answer (Reading.Frame h n) kept next other = refl
-same_answer (Reading.Refused r) kept next other = refl
+same_answer (Ok (h, n)) kept next other = refl
+same_answer (Err r) kept next other = refl
 
 ended_by_answer : (r next other : Reader) → ended_with r next ≡ beside (ended_with r other).answer r.kept next
 ended_by_answer r next other = go (eqb r.count 0) refl (ltb 31 r.count) refl
@@ -116,7 +99,7 @@ module _ (r : Reader) (byte silence : ℕ) where
   unfolding step_of
   step-ends e h = rw (e, le-leb 30 silence h)
 
-  pub step_joins : is_sound r ≡ true → silence < 30 → step_of r byte silence ≡ stepped (joined r byte) Nothing no_bytes
+  pub step_joins : is_sound r ≡ true → silence < 30 → step_of r byte silence ≡ stepped (joined r byte) (Ok None) no_bytes
   unfolding step_of
   step_joins e h = rw (e, lt-leb 30 silence h)
 

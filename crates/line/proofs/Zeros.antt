@@ -1,110 +1,102 @@
--- Zeros to the end of a list, place by place and part by part.
+-- Zeros to the end of a list, byte by byte and eight by eight.
 -- Assumes nothing.
-use Rattle.std.specs.Prelude.{if◌then◌else◌}
-use Prim.Native.Nat.{ℕ, ◌+◌, ◌-◌, ◌≤◌, ◌<◌}
+use Prim.Native.Nat.{ℕ, zero, suc, ◌+◌, ◌-◌, ◌*◌, ◌/◌, ◌≤◌, ◌<◌, min}
 use native.Mathlib.Omega.{arith}
-use native.Mathlib.Numerals.{add-one}
 use mathlib.Core.Path.{◌≡◌, refl, ◌∙◌, sym, ap}
-use mathlib.Core.Logic.{◌≢◌}
-use mathlib.Core.Bool.{Bool, true, false}
+use Rattle.std.specs.Prelude.{if◌then◌else◌}
+use mathlib.Core.Bool.{Bool, true, false, ◌&&◌}
 use mathlib.Core.List.{List, [], ◌∷◌, ◌++◌}
-use borrow.Author.Tests.{eq-eqb, ne_eqb, eqb-true, eqb-false}
-use lib.Dec.{eqb}
-use lib.ListN.{length, get_or, take, drop, drop_of_length-le, take-append-drop}
-use lib.Seq.{drop-cons, drop-drop, take-take, take-add}
+use borrow.Author.Tests.{ne_eqb, eqb-true, leb-true, leb-false}
+use lib.Dec.{eqb, leb}
+use lib.ListN.{length, get_or, take, drop, replicate, drop_of_length-le, take-append-drop, length-take}
+use Rattle.std.proofs.lemmas.Nat.{le_bytes_8}
+use lib.Seq.{take-add, drop-append-le}
+use Rattle.std.specs.List.{list_all}
+use Rattle.std.specs.Int.{w64, from_le_bytes}
+use Rattle.std.specs.Simd.{first_chunks}
 use Rattle.meaning.specs.Choice.{false_is_not_true}
 use Rattle.line.specs.Reader.{all_zeros}
 
-module _ (l : List ℕ) (i : ℕ) where
-  pub zeros_go_on : i < length l → get_or l i 0 ≡ 0 → all_zeros (drop i l) ≡ all_zeros (drop (i + 1) l)
-  unfolding all_zeros
-  zeros_go_on h e = rw (drop-cons l i 0 h, add-one, eq-eqb (get_or l i 0) 0 e)
-
-  pub zeros_stop : i < length l → get_or l i 0 ≢ 0 → all_zeros (drop i l) ≡ false
-  unfolding all_zeros
-  zeros_stop h n = rw (drop-cons l i 0 h, ne_eqb (get_or l i 0) 0 n)
-
-  pub zeros_end : length l ≤ i → all_zeros (drop i l) ≡ true
-  unfolding all_zeros
-  zeros_end h = rw (drop_of_length-le l h)
+pub zeros_end : (l : List ℕ) (i : ℕ) → length l ≤ i → all_zeros (drop i l) ≡ true
+unfolding all_zeros
+zeros_end l i h = rw (drop_of_length-le l h)
 
 pub both : (s t : Bool) → (if s then t else false) ≡ true → (s ≡ true) × (t ≡ true)
 both true t e = (refl, e)
 both false t e = absurd (false_is_not_true e)
 
-either_itself : (t : Bool) → t ≡ (if t then true else false)
-either_itself true = refl
-either_itself false = refl
-
-in_turn : (s t u w : Bool) → w ≡ (if t then u else false) → (if s then w else false) ≡ (if (if s then t else false) then u else false)
-in_turn true t u w e = e
-in_turn false t u w e = refl
-
-pub one_part : (l : List ℕ) (i : ℕ) → i < length l → eqb (get_or l i 0) 0 ≡ all_zeros (take 1 (drop i l))
+pub zero_first : (x : ℕ) (l : List ℕ) → all_zeros (x ∷ l) ≡ true → (x ≡ 0) × (all_zeros l ≡ true)
 unfolding all_zeros
-one_part l i h = rw (drop-cons l i 0 h) (either_itself (eqb (get_or l i 0) 0))
+zero_first x l e = let (z, t) = both (eqb x 0) (all_zeros l) e in (eqb-true x 0 z, t)
 
--- Two parts are zeros when each is.
-zeros_append : (a b : List ℕ) → all_zeros (a ++ b) ≡ (if all_zeros a then all_zeros b else false)
+pub zeros_are : (l : List ℕ) → all_zeros l ≡ true → l ≡ replicate (length l) 0
+zeros_are [] e = refl
+zeros_are (x ∷ l) e = let (z, t) = zero_first x l e in cc (zeros_are l t)
+
+-- Each byte is zero.
+pub each_zero : (l : List ℕ) → list_all (λ (byte : ℕ). eqb byte 0) l ≡ all_zeros l
+unfolding all_zeros
+each_zero [] = refl
+each_zero (x ∷ l) = go (eqb x 0) (list_all (λ (byte : ℕ). eqb byte 0) l) (all_zeros l) (each_zero l)
+  where
+    go : (s t u : Bool) → t ≡ u → (s && t) ≡ (if s then u else false)
+    go true t u e = e
+    go false t u e = refl
+
+-- Past the end there is none.
+pub from_within : (l : List ℕ) (i : ℕ) → all_zeros (drop (min i (length l)) l) ≡ all_zeros (drop i l)
+from_within l i = go (leb i (length l)) refl
+  where
+    go : (t : Bool) → leb i (length l) ≡ t → all_zeros (drop (min i (length l)) l) ≡ all_zeros (drop i l)
+    go true t =
+        let h : i ≤ length l = leb-true i (length l) t in
+        let e : min i (length l) ≡ i = omega arith in
+        rw e
+    go false t =
+        let h : length l < i = leb-false i (length l) t in
+        zeros_end l (min i (length l)) (omega arith) ∙ sym (zeros_end l i (omega arith))
+
+zeros_append : (a b : List ℕ) → all_zeros (a ++ b) ≡ (all_zeros a && all_zeros b)
 unfolding all_zeros
 zeros_append [] b = refl
-zeros_append (x ∷ a) b = in_turn (eqb x 0) (all_zeros a) (all_zeros b) (all_zeros (a ++ b)) (zeros_append a b)
+zeros_append (x ∷ a) b = go (eqb x 0) (all_zeros a) (all_zeros b) (all_zeros (a ++ b)) (zeros_append a b)
+  where
+    go : (s t u w : Bool) → w ≡ (t && u) → (if s then w else false) ≡ ((if s then t else false) && u)
+    go true t u w e = e
+    go false t u w e = refl
 
-zeros_fewer : (l : List ℕ) (n m : ℕ) → m ≤ n → all_zeros (take n l) ≡ true → all_zeros (take m l) ≡ true
-zeros_fewer l n m h e =
-    let parts : all_zeros (take m l ++ drop m (take n l)) ≡ true =
-    ap (λ (k : List ℕ). all_zeros (k ++ drop m (take n l))) (sym (take-take m n l h)) ∙ ap all_zeros (take-append-drop m (take n l)) ∙ e in
-    (both (all_zeros (take m l)) (all_zeros (drop m (take n l))) (sym (zeros_append (take m l) (drop m (take n l))) ∙ parts)).0
-
-module _ (l : List ℕ) (i n : ℕ) where
-  -- From here on, by a part and what follows it.
-  zeros_by_part : all_zeros (drop i l) ≡ (if all_zeros (take n (drop i l)) then all_zeros (drop (i + n) l) else false)
-  zeros_by_part =
-      ap all_zeros (sym (take-append-drop n (drop i l)))
-      ∙ zeros_append (take n (drop i l)) (drop n (drop i l))
-      ∙ ap (λ (r : List ℕ). if all_zeros (take n (drop i l)) then all_zeros r else false) (drop-drop n i l)
-
-  pub part_stops : all_zeros (take n (drop i l)) ≡ false → all_zeros (drop i l) ≡ false
-  part_stops e = zeros_by_part ∙ rw e
-
--- Over zeros, any step within them goes on.
-pub part_goes_on : (l : List ℕ) (i n m : ℕ) → m ≤ n → all_zeros (take n (drop i l)) ≡ true → all_zeros (drop (i + m) l) ≡ all_zeros (drop i l)
-part_goes_on l i n m h e = sym (zeros_by_part l i m ∙ rw (zeros_fewer (drop i l) n m h e))
-
--- The zeros passed so far can be skipped, and more of them passed.
-pub none_passed : (l : List ℕ) (from : ℕ) → all_zeros (take (from - from) (drop from l)) ≡ true
+-- Eight bytes as one number.
+pub eight_zero : (l : List ℕ) → length l ≡ 8 → ((i : ℕ) → get_or l i 0 < 256) → eqb (from_le_bytes w64 l) 0 ≡ all_zeros l
 unfolding all_zeros
-none_passed l from = let e : from - from ≡ 0 = omega arith in rw e
+eight_zero l h bytes = go (all_zeros l) refl
+  where
+    go : (t : Bool) → all_zeros l ≡ t → eqb (from_le_bytes w64 l) 0 ≡ t
+    go true t = ap (λ (k : List ℕ). eqb (from_le_bytes w64 k) 0) (zeros_are l t ∙ ap (λ (n : ℕ). replicate n 0) h)
+    go false t =
+        ne_eqb (from_le_bytes w64 l) 0 (λ none. false_is_not_true (sym t ∙ ap all_zeros (sym (le_bytes_8 l 0 h bytes (sym none)))))
 
-module _ (l : List ℕ) (from i : ℕ) (forward : from ≤ i) (zeros : all_zeros (take (i - from) (drop from l)) ≡ true) where
-  pub passed : (j : ℕ) → from ≤ j → j ≤ i → all_zeros (drop j l) ≡ all_zeros (drop from l)
-  passed j h k = let e : from + (j - from) ≡ j = omega arith in rw e at (part_goes_on l from (i - from) (j - from) (omega arith) zeros)
+-- Whole eights, which the last one may overlap.
+eights_zero : (k : ℕ) (l : List ℕ) → list_all all_zeros (first_chunks 8 k l) ≡ all_zeros (take (k * 8) l)
+unfolding all_zeros
+eights_zero zero l = refl
+eights_zero (suc k) l =
+    let e : suc k * 8 ≡ 8 + k * 8 = omega arith in
+    rw (e, take-add 8 (k * 8) l, zeros_append (take 8 l) (take (k * 8) (drop 8 l)), eights_zero k (drop 8 l))
 
-  pub passed_more : (n : ℕ) → all_zeros (take n (drop i l)) ≡ true → all_zeros (take (i + n - from) (drop from l)) ≡ true
-  passed_more n more =
-      let e : i + n - from ≡ (i - from) + n = omega arith in
-      let f : from + (i - from) ≡ i = omega arith in
-      rw (
-        e,
-        take-add (i - from) n (drop from l),
-        zeros_append (take (i - from) (drop from l))
-            (take n (drop (i - from) (drop from l))),
-        zeros,
-        drop-drop (i - from) from l,
-        f,
-      ) more
+overlap : (a b : List ℕ) (m : ℕ) → m ≤ length a → (all_zeros a && all_zeros (drop m (a ++ b))) ≡ all_zeros (a ++ b)
+overlap a b m h =
+    rw (drop-append-le m a b h, zeros_append (drop m a) b, zeros_append a b)
+    (go (all_zeros (take m a)) (all_zeros (drop m a)) (all_zeros b) (all_zeros a)
+    (ap all_zeros (sym (take-append-drop m a)) ∙ zeros_append (take m a) (drop m a)))
+  where
+    go : (s t u w : Bool) → w ≡ (s && t) → (w && (t && u)) ≡ (w && u)
+    go true true u w e = refl
+    go true false u w e = rw e
+    go false t u w e = rw e
 
--- A number made of two is zero when both are, and then so are the parts that they stand for.
-module _ (x y z : ℕ) (up : x ≡ 0 → y ≡ 0 → z ≡ 0) (down : z ≡ 0 → (x ≡ 0) × (y ≡ 0)) where
-  zero_when_both : (s t : Bool) → eqb x 0 ≡ s → eqb y 0 ≡ t → eqb z 0 ≡ (if s then t else false)
-  zero_when_both true true p q = eq-eqb z 0 (up (eqb-true x 0 p) (eqb-true y 0 q))
-  zero_when_both true false p q = ne_eqb z 0 (λ e. eqb-false y 0 q (down e).1)
-  zero_when_both false t p q = ne_eqb z 0 (λ e. eqb-false x 0 p (down e).0)
-
-  pub both_parts : (l : List ℕ) (i n m : ℕ) → eqb x 0 ≡ all_zeros (take n (drop i l)) → eqb y 0 ≡ all_zeros (take m (drop (i + n) l))
-      → eqb z 0 ≡ all_zeros (take (n + m) (drop i l))
-  both_parts l i n m p q =
-      zero_when_both (all_zeros (take n (drop i l))) (all_zeros (take m (drop (i + n) l))) p q
-      ∙ sym (zeros_append (take n (drop i l)) (take m (drop (i + n) l)))
-      ∙ ap (λ (r : List ℕ). all_zeros (take n (drop i l) ++ take m r)) (sym (drop-drop n i l))
-      ∙ ap all_zeros (sym (take-add n m (drop i l)))
+pub eights_and_last : (l : List ℕ) → 8 ≤ length l
+    → (list_all all_zeros (first_chunks 8 (length l / 8) l) && all_zeros (drop (length l - 8) l)) ≡ all_zeros l
+eights_and_last l h =
+    let n = length l / 8 * 8 in
+    rw (eights_zero (length l / 8) l)
+    (rw (take-append-drop n l) at (overlap (take n l) (drop n l) (length l - 8) (simp length-take (omega arith))))

@@ -1,9 +1,8 @@
 -- The same said of whole bundles: a recording falls into bundles, and each is told by itself.
 -- Assumes nothing.
-use Rattle.std.specs.Prelude.{ℕ, Bool, true, false, List, [], ◌∷◌, leb}
+use Rattle.std.specs.Prelude.{ℕ, Bool, true, false, List, [], ◌∷◌, leb, Ok, Err}
 use Rattle.refusal.specs.Number.{number_of}
-use Rattle.frame.specs.Reading.{reading_of}
-use Rattle.frame.specs.declared.reading.Reading.{Reading}
+use Rattle.frame.specs.Reading.{reading_of, Reading}
 use Rattle.line.specs.Telling.{Entry, after, Told, frame, refused}
 
 -- A bundle ends where the recording does, and where the next byte comes after a silence of 30 or more.
@@ -23,8 +22,8 @@ bundles (after silence byte ∷ es) = join byte (ends es) (bundles es)
 
 -- What is told of a bundle.
 abbrev pub told_of : Reading → List ℕ → Told
-told_of (Reading.Frame h n) bundle = frame h n bundle
-told_of (Reading.Refused q) bundle = refused (number_of q)
+told_of (Ok (h, n)) bundle = frame h n bundle
+told_of (Err q) bundle = refused (number_of q)
 
 abbrev pub bundle_told : List ℕ → Told
 bundle_told bundle = told_of (reading_of bundle) bundle

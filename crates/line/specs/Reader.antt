@@ -1,14 +1,16 @@
 -- The reader of a line (document 01, "From wire to frame" and rows 7, 8, 9).
 -- Assumes nothing.
-use Rattle.std.specs.Prelude.{if◌then◌else◌, ℕ, suc, ◌+◌, Bool, true, false, not, List, [], ◌∷◌, eqb, leb, ltb, length, take, drop, set, replicate}
+use Rattle.std.specs.Prelude.{if◌then◌else◌, ℕ, suc, ◌+◌, Bool, true, false, not, List, [], ◌∷◌, eqb, leb, ltb, length, take, drop, set, replicate, Option, Some, None, Result, Ok, Err}
 use Rattle.refusal.specs.declared.Refusal.{Refusal}
-use Rattle.frame.specs.Reading.{reading_of}
-use Rattle.frame.specs.declared.reading.Reading.{Reading}
+use Rattle.frame.specs.Reading.{reading_of, Reading}
+use Rattle.frame.specs.declared.header.Header.{Header}
 use Rattle.line.specs.declared.reader.Reader.{Reader}
-use Rattle.line.specs.declared.reader.Answer.{Answer}
-use Rattle.line.specs.declared.reader.Answer.TheVariants.{Nothing, Frame, Refused}
 use Rattle.line.specs.declared.reader.Stepped.{Stepped}
 use Rattle.line.specs.declared.reader.Ran.{Ran}
+
+-- What the reader answers: no bundle has ended, or a frame's header and its count of DATA, or a refusal.
+abbrev pub Answer : Type 0
+Answer = Result (Option (Header × ℕ)) Refusal
 
 abbrev pub reader : List ℕ → ℕ → Reader
 reader kept count = record { kept = kept; count = count }
@@ -52,26 +54,26 @@ stepped r answer bundle = record { reader = r; answer = answer; bundle = bundle 
 
 -- What a bundle of these bytes is answered by, beside its bytes if it is a frame.
 abbrev pub answered_by : Reading → List ℕ → Reader → Stepped
-answered_by (Reading.Frame h n) kept next = stepped next (Frame h n) kept
-answered_by (Reading.Refused q) kept next = stepped next (Refused q) no_bytes
+answered_by (Ok (h, n)) kept next = stepped next (Ok (Some (h, n))) kept
+answered_by (Err q) kept next = stepped next (Err q) no_bytes
 
 -- The open bundle ends. An empty one is never reported.
 unfoldable pub ended_with : Reader → Reader → Stepped
 ended_with r next =
-    if eqb r.count 0 then stepped next Nothing no_bytes else
-    if ltb 31 r.count then stepped next (Refused Refusal.TooLong) no_bytes else
+    if eqb r.count 0 then stepped next (Ok None) no_bytes else
+    if ltb 31 r.count then stepped next (Err Refusal.TooLong) no_bytes else
     answered_by (reading_of (take r.count r.kept)) r.kept next
 
 -- A refusal by row 9 leaves the state as it is.
 abbrev pub broken : Reader → Stepped
-broken r = stepped r (Refused Refusal.BrokenReader) no_bytes
+broken r = stepped r (Err Refusal.BrokenReader) no_bytes
 
 -- A silence of 30 or more ends the bundle before it, and the byte begins a new one.
 unfoldable pub step_of : Reader → (byte silence : ℕ) → Stepped
 step_of r byte silence =
     if not (is_sound r) then broken r else
     if leb ending_silence silence then ended_with r (begun byte) else
-    stepped (joined r byte) Nothing no_bytes
+    stepped (joined r byte) (Ok None) no_bytes
 
 -- The end of the recording ends an open bundle.
 unfoldable pub close_of : Reader → Stepped
@@ -84,20 +86,20 @@ ran s place = record { stepped = s; place = place }
 
 -- Over two runs: single steps, up to the byte that ends a bundle, or to the end.
 abbrev pub goes_on : Answer → Bool
-goes_on Nothing = true
-goes_on (Frame h n) = false
-goes_on (Refused q) = false
+goes_on (Ok None) = true
+goes_on (Ok (Some (h, n))) = false
+goes_on (Err q) = false
 
 unfoldable pub run_of : Reader → (bytes silences : List ℕ) → ℕ → Ran
-run_of r [] silences place = ran (stepped r Nothing no_bytes) place
-run_of r (byte ∷ bytes) [] place = ran (stepped r Nothing no_bytes) place
+run_of r [] silences place = ran (stepped r (Ok None) no_bytes) place
+run_of r (byte ∷ bytes) [] place = ran (stepped r (Ok None) no_bytes) place
 run_of r (byte ∷ bytes) (silence ∷ silences) place =
     let s = step_of r byte silence in
     if goes_on s.answer then run_of s.reader bytes silences (suc place) else ran s (suc place)
 
 -- A refusal reads nothing, and leaves the state as it is.
 abbrev pub refusing : Reader → Refusal → ℕ → Ran
-refusing r q place = ran (stepped r (Refused q) no_bytes) place
+refusing r q place = ran (stepped r (Err q) no_bytes) place
 
 -- The same from a place of two lent runs: rows 9, 7, 8.
 unfoldable pub ran_of : Reader → (bytes silences : List ℕ) → ℕ → Ran

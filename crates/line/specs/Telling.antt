@@ -1,12 +1,10 @@
 -- What the reader tells of a recording, in the paper's words: single steps, one after another, and then the close.
 -- Assumes nothing.
-use Rattle.std.specs.Prelude.{ℕ, ◌+◌, List, [], ◌∷◌, ◌++◌, take}
+use Rattle.std.specs.Prelude.{ℕ, ◌+◌, List, [], ◌∷◌, ◌++◌, take, Ok, Err, Some, None}
 use Rattle.refusal.specs.Number.{number_of}
 use Rattle.frame.specs.declared.header.Header.{Header}
-use Rattle.line.specs.Reader.{step_of, close_of}
+use Rattle.line.specs.Reader.{step_of, close_of, Answer}
 use Rattle.line.specs.declared.reader.Reader.{Reader}
-use Rattle.line.specs.declared.reader.Answer.{Answer}
-use Rattle.line.specs.declared.reader.Answer.TheVariants.{Nothing, Frame, Refused}
 use Rattle.line.specs.declared.reader.Stepped.{Stepped}
 
 -- A byte, with the tenths of a millisecond of silence before it.
@@ -20,9 +18,9 @@ pub data Told : Type 0 where
   refused : ℕ → Told
 
 abbrev pub told_by : Answer → List ℕ → List Told
-told_by Nothing bundle = []
-told_by (Frame h n) bundle = frame h n (take (11 + n) bundle) ∷ []
-told_by (Refused q) bundle = refused (number_of q) ∷ []
+told_by (Ok None) bundle = []
+told_by (Ok (Some (h, n))) bundle = frame h n (take (11 + n) bundle) ∷ []
+told_by (Err q) bundle = refused (number_of q) ∷ []
 
 abbrev pub said : Stepped → List Told
 said s = told_by s.answer s.bundle

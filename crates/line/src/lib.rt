@@ -4,4 +4,4 @@
 mod beyond;
 mod reader;
 
-pub use reader::{Answer, Ran, Reader, Stepped};
+pub use reader::{Ran, Reader, Stepped};

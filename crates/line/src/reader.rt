@@ -1,12 +1,14 @@
 // The reader is a value that each step takes in and hands back.
-ghost use Rattle.std.specs.Prelude.{◌≡◌, true, ◌≢◌, ◌⊎◌, ℕ, ◌+◌, ◌-◌, ◌≤◌, ◌<◌, length, get_or, take, drop};
+ghost use Rattle.std.specs.Prelude.{◌≡◌, true, ◌≢◌, ◌⊎◌, ℕ, ◌+◌, ◌-◌, ◌≤◌, ◌<◌, leb, length, get_or, drop};
+ghost use Rattle.std.specs.List.{position};
 ghost use mathlib.Core.List.{foldl};
 ghost use Rattle.line.specs.Reader.{reader, joined, stepped, no_bytes, fresh, begun, is_sound, kept_after, count_after, ended_with, step_of, close_of, refusing, run_of, ran_of};
 
 use crate::beyond::are_zeros;
-use frame::{Header, Reading, read};
+use frame::{Header, read};
 use refusal::Refusal;
 
+// Stays: a count beside its bytes, and 32 for too long, since the memory is fixed and row 9 judges any state that a host hands in.
 #[derive(Clone, Copy)]
 pub struct Reader {
     // The bundle's first bytes, at most 31, then zeros.
@@ -16,20 +18,13 @@ pub struct Reader {
 }
 
 #[derive(Clone, Copy)]
-pub enum Answer {
-    // No bundle has ended.
-    Nothing,
-    // A bundle has ended that is a frame: its header, and how many bytes of DATA it has.
-    Frame(Header, usize),
-    // A bundle has ended that is none, or row 7, 8 or 9.
-    Refused(Refusal),
-}
-
-#[derive(Clone, Copy)]
 pub struct Stepped {
     pub reader: Reader,
-    pub answer: Answer,
+    // None where no bundle has ended; the header of a frame that has, and how many bytes of DATA it has; the refusal of a
+    // bundle that is none, or row 7, 8 or 9.
+    pub answer: Result<Option<(Header, usize)>, Refusal>,
     // The frame's bytes, then zeros; all zeros where the answer is no frame.
+    // Stays: beside the answer, since `NoBytesWithoutAFrame` of promises speaks of it where no frame has ended.
     pub bundle: [u8; 31],
 }
 
@@ -59,7 +54,7 @@ impl Reader {
         ensures { result ≡ step_of self byte silence }
     {
         if !self.is_sound() {
-            return self.answering(Answer::Refused(Refusal::BrokenReader));
+            return self.answering(Err(Refusal::BrokenReader));
         }
         if silence >= ENDING {
             return self.ended(Reader::begun(byte));
@@ -67,7 +62,7 @@ impl Reader {
         let mut kept = self.kept;
         let count = lay_in(&mut kept, self.count, byte);
         let reader = Reader { kept, count };
-        reader.answering(Answer::Nothing)
+        reader.answering(Ok(None))
     }
 
     // The end of the recording.
@@ -75,7 +70,7 @@ impl Reader {
         ensures { result ≡ close_of self }
     {
         if !self.is_sound() {
-            return self.answering(Answer::Refused(Refusal::BrokenReader));
+            return self.answering(Err(Refusal::BrokenReader));
         }
         self.ended(Reader::fresh())
     }
@@ -100,7 +95,7 @@ impl Reader {
     fn refusing(self, refusal: Refusal, place: usize) -> Ran
         ensures { result ≡ refusing self refusal place }
     {
-        let stepped = self.answering(Answer::Refused(refusal));
+        let stepped = self.answering(Err(refusal));
         Ran { stepped, place }
     }
 
@@ -121,7 +116,7 @@ impl Reader {
                 place: end + 1,
             };
         }
-        let stepped = open.answering(Answer::Nothing);
+        let stepped = open.answering(Ok(None));
         Ran {
             stepped,
             place: end,
@@ -132,41 +127,38 @@ impl Reader {
     fn ended(self, next: Reader) -> Stepped
         ensures { result ≡ ended_with self next }
     {
-        let answer = self.judged();
-        match answer {
-            Answer::Frame(_, _) => {
+        match self.judged() {
+            Ok(None) => next.answering(Ok(None)),
+            Ok(Some(frame)) => {
                 let kept = self.kept;
                 Stepped {
                     reader: next,
-                    answer,
+                    answer: Ok(Some(frame)),
                     bundle: kept,
                 }
             }
-            _ => next.answering(answer),
+            Err(refusal) => next.answering(Err(refusal)),
         }
     }
 
     // What the open bundle is answered by when it ends.
-    fn judged(self) -> Answer
+    fn judged(self) -> Result<Option<(Header, usize)>, Refusal>
         ensures { result ≡ (ended_with self fresh).answer }
     {
         let kept = self.kept;
         let count = self.count;
         if count == 0 {
-            return Answer::Nothing;
+            return Ok(None);
         }
         if count > 31 {
-            return Answer::Refused(Refusal::TooLong);
+            return Err(Refusal::TooLong);
         }
-        let reading = read(&kept[..count]);
-        match reading {
-            Reading::Frame(header, content) => Answer::Frame(header, content),
-            Reading::Refused(reason) => Answer::Refused(reason),
-        }
+        let frame = read(&kept[..count])?;
+        Ok(Some(frame))
     }
 
     // An answer that is no frame has no bytes beside it.
-    fn answering(self, answer: Answer) -> Stepped
+    fn answering(self, answer: Result<Option<(Header, usize)>, Refusal>) -> Stepped
         ensures { result ≡ stepped self answer no_bytes }
     {
         Stepped {
@@ -189,99 +181,71 @@ impl Reader {
     fn is_sound(self) -> bool
         ensures { result ≡ is_sound self }
     {
-        let count = self.count;
-        if count > 32 {
-            return false;
-        }
-        let kept = self.kept;
-        are_zeros(&kept, count)
+        self.count <= 32 && are_zeros(&self.kept, self.count)
     }
 }
 
 // A byte joins the open bundle: it is kept while there is room, and the bundle is too long from the 32nd on.
+// Stays: beside `lay_all`, since a step has one byte, and its contract names `count_after` and `kept_after`.
 fn lay_in(kept: &mut [u8; 31], count: usize, byte: u8) -> usize
     ensures { (result ≡ count_after count) × (kept.new ≡ kept_after kept.old count byte) }
 {
     if count < 31 {
         kept[count] = byte;
-        return count + 1;
+        count + 1
+    } else {
+        32
     }
-    32
 }
 
 // An empty bundle takes its first byte whatever the silence before it.
 fn first_to_end_it(count: usize, place: usize, end: usize) -> usize
     requires { place ≤ end }
-    ensures { (place ≤ result) × (result ≤ end) × (((result ≡ place) × ((count ≢ 0) ⊎ (place ≡ end))) ⊎ ((result ≡ place + 1) × (count ≡ 0))) }
+    ensures forward { place ≤ result }
+    ensures within { result ≤ end }
+    ensures first { ((result ≡ place) × ((count ≢ 0) ⊎ (place ≡ end))) ⊎ ((result ≡ place + 1) × (count ≡ 0)) }
 {
-    if count == 0 {
-        if place < end {
-            return place + 1;
-        }
+    if count == 0 && place < end {
+        place + 1
+    } else {
+        place
     }
-    place
 }
 
 // The first silence from here on that ends a bundle, or the end of them all: eight at a time, which the compiler writes out.
 fn bundle_end(silences: &[u16], from: usize) -> usize
     requires { from ≤ length silences.now }
-    ensures { (from ≤ result) × (result ≤ length silences.now) × ((k : ℕ) → from ≤ k → k < result → get_or silences.now k 0 < 30) × (result < length silences.now → 30 ≤ get_or silences.now result 0) }
+    ensures forward { from ≤ result }
+    ensures within { result ≤ length silences.now }
+    ensures quiet { (k : ℕ) → from ≤ k → k < result → get_or silences.now k 0 < 30 }
+    ensures loud { result < length silences.now → 30 ≤ get_or silences.now result 0 }
 {
-    let mut i = from;
-    while silences.len() - i >= 8 {
-        let found = first_ending(silences, i, i + 8);
-        if found < i + 8 {
-            return found;
+    let rest = &silences[from..];
+    let (eights, last) = rest.as_chunks::<8>();
+    for (passed, eight) in eights.iter().enumerate() {
+        if let Some(found) = first_ending(eight) {
+            return from + passed * 8 + found;
         }
-        i += 8;
     }
-    first_ending(silences, i, silences.len())
+    match first_ending(last) {
+        Some(found) => from + eights.len() * 8 + found,
+        None => silences.len(),
+    }
 }
 
-fn first_ending(silences: &[u16], from: usize, end: usize) -> usize
-    requires { (from ≤ end) × (end ≤ length silences.now) }
-    ensures { (from ≤ result) × (result ≤ end) × ((k : ℕ) → from ≤ k → k < result → get_or silences.now k 0 < 30) × (result < end → 30 ≤ get_or silences.now result 0) }
+// The first silence that ends a bundle.
+fn first_ending(silences: &[u16]) -> Option<usize>
+    ensures { result ≡ position (leb 30) silences.now }
 {
-    let mut i = from;
-    while i < end {
-        if silences[i] >= ENDING {
-            return i;
-        }
-        i += 1;
-    }
-    i
+    silences.iter().position(|silence| *silence >= ENDING)
 }
 
-// The bytes of a part join the open bundle.
+// The bytes of a part join the open bundle, those for which there is room.
 fn lay_all(kept: &mut [u8; 31], count: usize, part: &[u8]) -> usize
     ensures { reader kept.new result ≡ foldl joined (reader kept.old count) part.now }
 {
-    let room = room_behind(count);
-    if part.len() > room {
-        lay_first(kept, count, part, room);
-        return 32;
-    }
-    lay_first(kept, count, part, part.len());
-    count + part.len()
-}
-
-fn room_behind(count: usize) -> usize
-    ensures { result ≡ 31 - count }
-{
-    if count > 31 {
-        return 0;
-    }
-    31 - count
-}
-
-// So many of a part's first bytes, for which there is room.
-fn lay_first(kept: &mut [u8; 31], at: usize, part: &[u8], n: usize)
-    requires { (n ≤ 31 - at) × (n ≤ length part.now) }
-    ensures { reader kept.new (at + n) ≡ foldl joined (reader kept.old at) (take n part.now) }
-{
-    let mut i: usize = 0;
-    while i < n {
-        kept[at + i] = part[i];
-        i += 1;
-    }
+    let place = count.min(31);
+    let laid = part.len().min(31 - place);
+    kept[place..place + laid].copy_from_slice(&part[..laid]);
+    if laid < part.len() { 32 } else { count + laid }
 }

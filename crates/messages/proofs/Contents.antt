@@ -22,16 +22,11 @@ use Rattle.travel.specs.Units.{ip}
 use Rattle.travel.specs.Position.{percent_of_pulse, percent_at_most_100}
 use Rattle.travel.specs.declared.Pulse.{Pulse}
 use Rattle.board.specs.Drive.{is_running}
-use Rattle.board.specs.Favourites.{ip_at, is_at, is_number, first_at, reported_ip}
-use Rattle.board.specs.Groups.{Groups}
+use Rattle.board.specs.Favourites.{ip_at, is_at, is_number, first_at, reported_ip, Ip}
+use Rattle.board.specs.Groups.{Groups, Change}
 use Rattle.board.specs.Label.{is_character, is_label}
 use Rattle.board.specs.Node.{sound, status_of, with_label}
 use Rattle.board.specs.Typed.{Typed, TypedTable}
-use Rattle.board.specs.declared.favourites.Ip.{Ip}
-use Rattle.board.specs.declared.favourites.Ip.TheVariants.{Unset, At}
-use Rattle.board.specs.declared.favourites.Slot.{Slot}
-use Rattle.board.specs.declared.groups.Change.{Change}
-use Rattle.board.specs.declared.groups.Change.TheVariants.{Keep, Put}
 use Rattle.board.specs.declared.whole.Node.{Node}
 use Rattle.board.proofs.Within.{position_within}
 use Rattle.board.proofs.Sound.{settings_facts, plate_facts, parts_of}
@@ -56,7 +51,7 @@ use Rattle.messages.specs.Motor.{
 }
 use Rattle.messages.specs.Ips.{order_in, ordered, set_ip_codes, keeping_ips, set_ip_row, percent_or, ip_codes, ip_data, ip_row}
 use Rattle.messages.specs.Locking.{set_lock_codes, locked_by, set_lock_row, lock_data, lock_row}
-use Rattle.messages.specs.Addresses.{address_row, group_codes, group_data, group_row, set_group_row}
+use Rattle.messages.specs.Addresses.{address_row, group_codes, group_data, group_row, put_in, set_group_row}
 use Rattle.messages.specs.Identity.{
   first_of,
   label_in,
@@ -71,6 +66,7 @@ use Rattle.messages.specs.Identity.{
 use Rattle.messages.specs.Table.{outcome_of}
 use Rattle.messages.proofs.FirstBytes.{so_many, bytes_of_bytes}
 use Rattle.messages.proofs.Messages.{every_message, or_refused}
+use Rattle.std.specs.Prelude.{Some, None}
 
 -- ---- what is done alone, and what is told
 -- What holds of every outcome that is carried out, of every refusal and of what each GET tells holds of whatever a message comes to.
@@ -101,16 +97,16 @@ all_told P n groups source m d t =
       set_ip = or_refused P n t.refused (set_ip_codes n d (order_in d)) (keeping_ips n (ordered n (order_in d))) (λ p. t.done _ _);
       ip = or_refused P n t.refused (ip_codes d (ip (byte_at d 0))) (posts n 0x35 (ip_data n (ip (byte_at d 0)))) (λ p. t.ip p.1.0);
       set_lock =
-          or_refused P n t.refused (set_lock_codes n d (byte_at d 0) (byte_at d 1)) (acts (locked_by n source (byte_at d 0) (byte_at d 1)) Keep)
+          or_refused P n t.refused (set_lock_codes n d (byte_at d 0) (byte_at d 1)) (acts (locked_by n source (byte_at d 0) (byte_at d 1)) None)
           (λ p. t.done _ _);
       lock = t.lock;
       address = t.address;
       group = or_refused P n t.refused (group_codes 1 d (byte_at d 0)) (posts n 0x61 (group_data groups (byte_at d 0))) (λ p. t.group p.1.0);
       set_group =
-          or_refused P n t.refused (group_codes 4 d (byte_at d 0)) (acts n (Put (byte_at d 0) (byte_at d 1) (byte_at d 2) (byte_at d 3)))
+          or_refused P n t.refused (group_codes 4 d (byte_at d 0)) (acts n (put_in (byte_at d 0) d))
           (λ p. t.done _ _);
       label = t.label;
-      set_label = or_refused P n t.refused (set_label_codes d) (acts (with_label n (label_in d)) Keep) (λ p. t.done _ _);
+      set_label = or_refused P n t.refused (set_label_codes d) (acts (with_label n (label_in d)) None) (λ p. t.done _ _);
       version = t.version;
       serial = t.serial;
       unknown = t.refused Code.UnknownMessage;
@@ -154,18 +150,18 @@ code_fits Code.PriorityTooLow = omega arith
 code_fits Code.Blocked = omega arith
 code_fits Code.IpNotSet = omega arith
 
-first_at_fits : (number : ℕ) (l : List Slot) (p : Pulse) → number + length l ≤ 256 → first_at number l p < 256
+first_at_fits : (number : ℕ) (l : List Ip) (p : Pulse) → number + length l ≤ 256 → first_at number l p < 256
 unfolding first_at
 first_at_fits number [] p h = omega arith
 first_at_fits number (s ∷ l) p h =
-    either (λ (k : ℕ). k < 256) (is_at s.ip p) (λ e. omega arith) (λ e. first_at_fits (suc number) l p (omega arith))
+    either (λ (k : ℕ). k < 256) (is_at s p) (λ e. omega arith) (λ e. first_at_fits (suc number) l p (omega arith))
 
 percent_fits : (p travel : Pulse) → (percent_of_pulse p travel).0 < 256
 percent_fits p travel = omega (arith, percent_at_most_100 p travel)
 
 percent_or_fits : (x : Ip) (travel : Pulse) → percent_or x travel < 256
-percent_or_fits Unset travel = omega arith
-percent_or_fits (At p) travel = percent_fits p travel
+percent_or_fits None travel = omega arith
+percent_or_fits (Some p) travel = percent_fits p travel
 
 bit_fits : (flag : Bool) → bit flag < 256
 bit_fits flag = either (λ (k : ℕ). k < 256) flag (λ e. omega arith) (λ e. omega arith)

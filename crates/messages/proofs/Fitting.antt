@@ -16,8 +16,6 @@ use Rattle.board.specs.Favourites.{pulse_of}
 use Rattle.board.specs.Groups.{Groups}
 use Rattle.board.specs.Node.{with_drive, with_label}
 use Rattle.board.specs.Typed.{Typed}
-use Rattle.board.specs.declared.favourites.Ip.TheVariants.{Unset, At}
-use Rattle.board.specs.declared.groups.Change.TheVariants.{Keep, Put}
 use Rattle.board.specs.declared.lock.Lock.{Lock}
 use Rattle.board.specs.declared.whole.Node.{Node}
 use Rattle.board.proofs.Fitting.{
@@ -34,18 +32,19 @@ use Rattle.board.proofs.Fitting.{
 }
 use Rattle.messages.specs.declared.code.Code.{Code}
 use Rattle.messages.specs.declared.favourites.Order.{Order}
-use Rattle.messages.specs.declared.favourites.Order.TheVariants.{Delete, Here, AtPercent, Share, Nothing}
+use Rattle.messages.specs.declared.favourites.Order.TheVariants.{Delete, Here, AtPercent, Share}
 use Rattle.messages.specs.declared.outcome.Outcome.{Outcome}
 use Rattle.messages.specs.Fields.{byte_at}
 use Rattle.messages.specs.Outcome.{acts, posts, refusals, refusing}
 use Rattle.messages.specs.Motor.{stop_codes, stopped, stop_row, aim_in, target_of, move_codes, moved, move_row, position_row, status_row}
 use Rattle.messages.specs.Ips.{order_in, ordered, set_ip_codes, keeping_ips, set_ip_row, ip_codes, ip_data, ip_row}
 use Rattle.messages.specs.Locking.{set_lock_codes, lock_by, locked_by, set_lock_row, lock_row}
-use Rattle.messages.specs.Addresses.{address_row, group_codes, group_data, group_row, set_group_row}
+use Rattle.messages.specs.Addresses.{address_row, group_codes, group_data, group_row, put_in, set_group_row}
 use Rattle.messages.specs.Identity.{label_in, label_row, set_label_codes, set_label_row, version_row, serial_row}
 use Rattle.messages.specs.Table.{outcome_of}
 use Rattle.messages.proofs.FirstBytes.{so_many}
 use Rattle.messages.proofs.Messages.{every_message, or_refused}
+use Rattle.std.specs.Prelude.{Option, Some, None}
 
 -- What is left fits.
 pub record Fitting (o : Outcome) : Type 0 where
@@ -73,12 +72,12 @@ module _ (n : Node) (t : Typed n) (d : List ℕ) (bytes : (place : ℕ) → byte
         change_fits = tt;
       })
 
-  ordered_sixteen : (o : Order) → length (ordered n o).slots ≡ 16
-  ordered_sixteen (Delete i) = with_ip_sixteen n.favourites i Unset t.sixteen_slots
-  ordered_sixteen (Here i) = with_ip_sixteen n.favourites i (At n.drive.position) t.sixteen_slots
-  ordered_sixteen (AtPercent i k) = with_ip_sixteen n.favourites i (At (pulse_of_percent k n.settings.travel)) t.sixteen_slots
-  ordered_sixteen (Share k) = shared_out_sixteen k n.settings.travel
-  ordered_sixteen Nothing = t.sixteen_slots
+  ordered_sixteen : (o : Option Order) → length (ordered n o).slots ≡ 16
+  ordered_sixteen (Some (Delete i)) = with_ip_sixteen n.favourites i None t.sixteen_slots
+  ordered_sixteen (Some (Here i)) = with_ip_sixteen n.favourites i (Some n.drive.position) t.sixteen_slots
+  ordered_sixteen (Some (AtPercent i k)) = with_ip_sixteen n.favourites i (Some (pulse_of_percent k n.settings.travel)) t.sixteen_slots
+  ordered_sixteen (Some (Share k)) = shared_out_sixteen k n.settings.travel
+  ordered_sixteen None = t.sixteen_slots
 
   set_ip_fits : Fitting (set_ip_row n d)
   unfolding set_ip_row
@@ -107,7 +106,7 @@ module _ (n : Node) (t : Typed n) (d : List ℕ) (bytes : (place : ℕ) → byte
   set_lock_fits : (source : Address) → Fitting (set_lock_row n source d)
   unfolding set_lock_row
   set_lock_fits source =
-      or_fitting (set_lock_codes n d (byte_at d 0) (byte_at d 1)) (acts (locked_by n source (byte_at d 0) (byte_at d 1)) Keep)
+      or_fitting (set_lock_codes n d (byte_at d 0) (byte_at d 1)) (acts (locked_by n source (byte_at d 0) (byte_at d 1)) None)
       (λ p. record { node_fits = locked_by_fits source (byte_at d 0); change_fits = tt })
 
   pub every_message_fits : (groups : Groups) (source : Address) (m : ℕ) → Fitting (outcome_of n groups source m d)
@@ -127,11 +126,11 @@ module _ (n : Node) (t : Typed n) (d : List ℕ) (bytes : (place : ℕ) → byte
         group = or_fitting (group_codes 1 d (byte_at d 0)) (posts n 0x61 (group_data groups (byte_at d 0)))
             (λ p. record { node_fits = t; change_fits = tt });
         set_group =
-            or_fitting (group_codes 4 d (byte_at d 0)) (acts n (Put (byte_at d 0) (byte_at d 1) (byte_at d 2) (byte_at d 3)))
+            or_fitting (group_codes 4 d (byte_at d 0)) (acts n (put_in (byte_at d 0) d))
             (λ p. record { node_fits = t; change_fits = (bytes 1, (bytes 2, bytes 3)) });
         label = record { node_fits = t; change_fits = tt };
         set_label =
-            or_fitting (set_label_codes d) (acts (with_label n (label_in d)) Keep)
+            or_fitting (set_label_codes d) (acts (with_label n (label_in d)) None)
             (λ p. record { node_fits = label_kept_typed n t (label_in d) (so_many 16 d); change_fits = tt });
         version = record { node_fits = t; change_fits = tt };
         serial = record { node_fits = t; change_fits = tt };

@@ -6,7 +6,6 @@ use mathlib.Core.List.{List}
 use Rattle.frame.specs.declared.address.Address.{Address}
 use Rattle.travel.specs.Units.{ip}
 use Rattle.board.specs.Groups.{Groups}
-use Rattle.board.specs.declared.groups.Change.TheVariants.{Keep}
 use Rattle.board.specs.declared.whole.Node.{Node}
 use Rattle.messages.specs.declared.outcome.Outcome.{Outcome}
 use Rattle.messages.specs.Fields.{byte_at}
@@ -30,11 +29,12 @@ use Rattle.messages.specs.Table.{
   outcome_of,
 }
 use Rattle.messages.proofs.Messages.{at_row, or_refused}
+use Rattle.std.specs.Prelude.{None}
 
 -- Neither the node nor the group table is changed.
 pub record Idle (n : Node) (o : Outcome) : Type 0 where
   pub node_kept : o.node ≡ n
-  pub table_kept : o.change ≡ Keep
+  pub table_kept : o.change ≡ None
 
 module _ (n : Node) (groups : Groups) (d : List ℕ) where
   ip_idle : Idle n (ip_row n d)

@@ -10,7 +10,6 @@ use Rattle.frame.specs.declared.address.Address.{Address}
 use Rattle.travel.specs.Units.{ip}
 use Rattle.board.specs.Groups.{Groups}
 use Rattle.board.specs.Node.{with_label}
-use Rattle.board.specs.declared.groups.Change.TheVariants.{Keep}
 use Rattle.board.specs.declared.whole.Node.{Node}
 use Rattle.messages.specs.Fields.{byte_at, shorter_than}
 use Rattle.messages.specs.Outcome.{acts, posts, refusals}
@@ -19,6 +18,7 @@ use Rattle.messages.specs.Ips.{order_in, ordered, set_ip_codes, keeping_ips, set
 use Rattle.messages.specs.Locking.{set_lock_codes, locked_by, set_lock_row}
 use Rattle.messages.specs.Addresses.{group_codes, group_data, group_row, put_in, set_group_row}
 use Rattle.messages.specs.Identity.{label_in, set_label_codes, set_label_row}
+use Rattle.std.specs.Prelude.{None}
 
 -- 11h, from the test as the code asks it.
 module _ (least : ℕ) (d : List ℕ) {asked : Bool} (e : asked ≡ (shorter_than least d).holds) where
@@ -50,10 +50,10 @@ module _ (n : Node) (d : List ℕ) (passed : ℕ) where
 
   pub set_lock_at : (source : Address) → Applies passed (refusals n (set_lock_codes n d (byte_at d 0) (byte_at d 1)))
       → set_lock_row n source d
-      ≡ answer_at passed (refusals n (set_lock_codes n d (byte_at d 0) (byte_at d 1))) (acts (locked_by n source (byte_at d 0) (byte_at d 1)) Keep)
+      ≡ answer_at passed (refusals n (set_lock_codes n d (byte_at d 0) (byte_at d 1))) (acts (locked_by n source (byte_at d 0) (byte_at d 1)) None)
   unfolding set_lock_row
   set_lock_at source = decided passed (refusals n (set_lock_codes n d (byte_at d 0) (byte_at d 1)))
-      (acts (locked_by n source (byte_at d 0) (byte_at d 1)) Keep)
+      (acts (locked_by n source (byte_at d 0) (byte_at d 1)) None)
 
   pub group_at : (groups : Groups) → Applies passed (refusals n (group_codes 1 d (byte_at d 0)))
       → group_row n groups d ≡ answer_at passed (refusals n (group_codes 1 d (byte_at d 0))) (posts n 0x61 (group_data groups (byte_at d 0)))
@@ -67,6 +67,6 @@ module _ (n : Node) (d : List ℕ) (passed : ℕ) where
   set_group_at = decided passed (refusals n (group_codes 4 d (byte_at d 0))) (acts n (put_in (byte_at d 0) d))
 
   pub set_label_at : Applies passed (refusals n (set_label_codes d))
-      → set_label_row n d ≡ answer_at passed (refusals n (set_label_codes d)) (acts (with_label n (label_in d)) Keep)
+      → set_label_row n d ≡ answer_at passed (refusals n (set_label_codes d)) (acts (with_label n (label_in d)) None)
   unfolding set_label_row
-  set_label_at = decided passed (refusals n (set_label_codes d)) (acts (with_label n (label_in d)) Keep)
+  set_label_at = decided passed (refusals n (set_label_codes d)) (acts (with_label n (label_in d)) None)

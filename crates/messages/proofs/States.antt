@@ -15,38 +15,35 @@ use Rattle.travel.specs.Position.{pulse_of_percent, pulse_at_most_travel}
 use Rattle.travel.specs.declared.IpIndex.{IpIndex}
 use Rattle.travel.specs.declared.Pulse.{Pulse}
 use Rattle.board.specs.Drive.{halted, moved_to, drive_within}
-use Rattle.board.specs.Favourites.{pulse_of, with_ip, ip_within, ips_within}
-use Rattle.board.specs.Groups.{Groups}
+use Rattle.board.specs.Favourites.{pulse_of, with_ip, ip_within, ips_within, Ip}
+use Rattle.board.specs.Groups.{Groups, Change}
 use Rattle.board.specs.Node.{sound, with_drive, with_lock, with_label}
 use Rattle.board.specs.declared.drive.Drive.{Drive}
-use Rattle.board.specs.declared.favourites.Ip.{Ip}
-use Rattle.board.specs.declared.favourites.Ip.TheVariants.{Unset, At}
-use Rattle.board.specs.declared.groups.Change.{Change}
-use Rattle.board.specs.declared.groups.Change.TheVariants.{Keep, Put}
 use Rattle.board.specs.declared.lock.Lock.{Lock}
 use Rattle.board.specs.declared.whole.Node.{Node}
 use Rattle.board.proofs.Within.{position_within, moved_within, halted_within, shared_within, ip_at_within, with_ip_within}
 use Rattle.board.proofs.Sound.{parts_of, drive_kept_sound, favourites_kept_sound, lock_kept_sound, label_kept_sound}
 use Rattle.messages.specs.declared.code.Code.{Code}
 use Rattle.messages.specs.declared.favourites.Order.{Order}
-use Rattle.messages.specs.declared.favourites.Order.TheVariants.{Delete, Here, AtPercent, Share, Nothing}
+use Rattle.messages.specs.declared.favourites.Order.TheVariants.{Delete, Here, AtPercent, Share}
 use Rattle.messages.specs.declared.motor.Aim.{Aim}
-use Rattle.messages.specs.declared.motor.Aim.TheVariants.{Down, Up, ToIp, ToPercent, Nowhere}
+use Rattle.messages.specs.declared.motor.Aim.TheVariants.{Down, Up, ToIp, ToPercent}
 use Rattle.messages.specs.declared.outcome.Outcome.{Outcome}
 use Rattle.messages.specs.Fields.{byte_at}
 use Rattle.messages.specs.Outcome.{acts, posts, refusals, refusing}
 use Rattle.messages.specs.Motor.{stop_codes, stopped, stop_row, aim_in, target_of, move_codes, moved, move_row, position_row, status_row}
 use Rattle.messages.specs.Ips.{order_in, ordered, set_ip_codes, keeping_ips, set_ip_row, ip_codes, ip_data, ip_row}
 use Rattle.messages.specs.Locking.{set_lock_codes, lock_by, locked_by, set_lock_row, lock_row}
-use Rattle.messages.specs.Addresses.{address_row, group_codes, group_data, group_row, set_group_row}
+use Rattle.messages.specs.Addresses.{address_row, group_codes, group_data, group_row, put_in, set_group_row}
 use Rattle.messages.specs.Identity.{label_in, label_row, set_label_codes, set_label_row, version_row, serial_row}
 use Rattle.messages.specs.Table.{outcome_of}
 use Rattle.messages.proofs.Messages.{every_message, or_refused}
+use Rattle.std.specs.Prelude.{Option, Some, None}
 
 -- An entry that is put is one of the sixteen.
 abbrev pub InTable : Change → Type 0
-InTable Keep = Unit {0}
-InTable (Put index low middle high) = index ≤ 15
+InTable None = Unit {0}
+InTable (Some p) = p.index ≤ 15
 
 pub record Carried (n after : Node) (change : Change) : Type 0 where
   pub still_sound : sound after ≡ true
@@ -61,7 +58,7 @@ module _ (n : Node) (s : sound n ≡ true) where
   abbrev travel : Pulse
   travel = n.settings.travel
 
-  pub nothing_done : Carried n n Keep
+  pub nothing_done : Carried n n None
   nothing_done = record { still_sound = s; settings_kept = refl; entry_in_table = tt }
 
   or_safe : (codes : List (Row Code)) (done : Outcome) → (Passed (refusals n codes) → Safe n done) → Safe n (refusing n codes done)
@@ -71,23 +68,23 @@ module _ (n : Node) (s : sound n ≡ true) where
   drive_within_lem : drive_within travel n.drive ≡ true
   drive_within_lem = (parts_of n s).drive_within_lem
 
-  driven : (d : Drive) → drive_within travel d ≡ true → Carried n (with_drive n d) Keep
+  driven : (d : Drive) → drive_within travel d ≡ true → Carried n (with_drive n d) None
   driven d w = record { still_sound = drive_kept_sound n s d w; settings_kept = refl; entry_in_table = tt }
 
   stop_safe : (d : List ℕ) → Safe n (stop_row n d)
   unfolding stop_row
   stop_safe d = or_safe (stop_codes n d) (stopped n) (λ p. driven (halted n.drive) (halted_within travel n.drive drive_within_lem))
 
-  target_within : (aim : Aim) → ip_within travel (target_of n aim) ≡ true
-  target_within Down = le-leb travel.0 travel.0 (omega arith)
-  target_within Up = le-leb 0 travel.0 (omega arith)
-  target_within (ToIp i) = ip_at_within travel n.favourites i (parts_of n s).ips_within_lem
-  target_within (ToPercent k) = le-leb (pulse_of_percent k travel).0 travel.0 (pulse_at_most_travel k travel)
-  target_within Nowhere = refl
+  target_within : (aim : Option Aim) → ip_within travel (target_of n aim) ≡ true
+  target_within (Some Down) = le-leb travel.0 travel.0 (omega arith)
+  target_within (Some Up) = le-leb 0 travel.0 (omega arith)
+  target_within (Some (ToIp i)) = ip_at_within travel n.favourites i (parts_of n s).ips_within_lem
+  target_within (Some (ToPercent k)) = le-leb (pulse_of_percent k travel).0 travel.0 (pulse_at_most_travel k travel)
+  target_within None = refl
 
   pulse_within : (x : Ip) → ip_within travel x ≡ true → (pulse_of x).0 ≤ travel.0
-  pulse_within Unset w = omega arith
-  pulse_within (At p) w = leb-true p.0 travel.0 w
+  pulse_within None w = omega arith
+  pulse_within (Some p) w = leb-true p.0 travel.0 w
 
   move_safe : (d : List ℕ) → Safe n (move_row n d)
   unfolding move_row
@@ -101,15 +98,15 @@ module _ (n : Node) (s : sound n ≡ true) where
   one_ip_within : (i : IpIndex) (x : Ip) → ip_within travel x ≡ true → ips_within travel (with_ip n.favourites i x).slots ≡ true
   one_ip_within i x w = with_ip_within travel n.favourites i (parts_of n s).ips_within_lem x w
 
-  ordered_within : (o : Order) → ips_within travel (ordered n o).slots ≡ true
-  ordered_within (Delete i) = one_ip_within i Unset refl
-  ordered_within (Here i) =
+  ordered_within : (o : Option Order) → ips_within travel (ordered n o).slots ≡ true
+  ordered_within (Some (Delete i)) = one_ip_within i None refl
+  ordered_within (Some (Here i)) =
       let p = n.drive.position in
-      one_ip_within i (At p) (le-leb p.0 travel.0 (position_within travel n.drive drive_within_lem))
-  ordered_within (AtPercent i k) =
-      one_ip_within i (At (pulse_of_percent k travel)) (le-leb (pulse_of_percent k travel).0 travel.0 (pulse_at_most_travel k travel))
-  ordered_within (Share k) = shared_within travel k
-  ordered_within Nothing = (parts_of n s).ips_within_lem
+      one_ip_within i (Some p) (le-leb p.0 travel.0 (position_within travel n.drive drive_within_lem))
+  ordered_within (Some (AtPercent i k)) =
+      one_ip_within i (Some (pulse_of_percent k travel)) (le-leb (pulse_of_percent k travel).0 travel.0 (pulse_at_most_travel k travel))
+  ordered_within (Some (Share k)) = shared_within travel k
+  ordered_within None = (parts_of n s).ips_within_lem
 
   set_ip_safe : (d : List ℕ) → Safe n (set_ip_row n d)
   unfolding set_ip_row
@@ -123,11 +120,11 @@ module _ (n : Node) (s : sound n ≡ true) where
   ip_safe d = or_safe (ip_codes d (ip (byte_at d 0))) (posts n 0x35 (ip_data n (ip (byte_at d 0)))) (λ p. nothing_done)
 
   -- The lock.
-  relocked : (m : Node) → sound m ≡ true → m.settings ≡ n.settings → (l : Lock) → l.holder.0 ≤ 0xFFFFFF → Carried n (with_lock m l) Keep
+  relocked : (m : Node) → sound m ≡ true → m.settings ≡ n.settings → (l : Lock) → l.holder.0 ≤ 0xFFFFFF → Carried n (with_lock m l) None
   relocked m k e l h = record { still_sound = lock_kept_sound m k l h; settings_kept = e; entry_in_table = tt }
 
   abbrev Kept : Node → Type 0
-  Kept m = Carried n m Keep
+  Kept m = Carried n m None
 
   abbrev Holder : Lock → Type 0
   Holder l = l.holder.0 ≤ 0xFFFFFF
@@ -150,7 +147,7 @@ module _ (n : Node) (s : sound n ≡ true) where
   set_lock_safe : (source : Address) (d : List ℕ) → source.0 ≤ 0xFFFFFF → Safe n (set_lock_row n source d)
   unfolding set_lock_row
   set_lock_safe source d h =
-      or_safe (set_lock_codes n d (byte_at d 0) (byte_at d 1)) (acts (locked_by n source (byte_at d 0) (byte_at d 1)) Keep)
+      or_safe (set_lock_codes n d (byte_at d 0) (byte_at d 1)) (acts (locked_by n source (byte_at d 0) (byte_at d 1)) None)
       (λ p. locked_by_safe source (byte_at d 0) (byte_at d 1) h)
 
   -- The groups.
@@ -161,14 +158,14 @@ module _ (n : Node) (s : sound n ≡ true) where
   set_group_safe : (d : List ℕ) → Safe n (set_group_row n d)
   unfolding set_group_row
   set_group_safe d =
-      or_safe (group_codes 4 d (byte_at d 0)) (acts n (Put (byte_at d 0) (byte_at d 1) (byte_at d 2) (byte_at d 3)))
+      or_safe (group_codes 4 d (byte_at d 0)) (acts n (put_in (byte_at d 0) d))
       (λ p. record { still_sound = s; settings_kept = refl; entry_in_table = p.1.0 })
 
   -- The label.
   set_label_safe : (d : List ℕ) → Safe n (set_label_row n d)
   unfolding set_label_row
   set_label_safe d =
-      or_safe (set_label_codes d) (acts (with_label n (label_in d)) Keep)
+      or_safe (set_label_codes d) (acts (with_label n (label_in d)) None)
       (λ p. record { still_sound = label_kept_sound n s (label_in d) p.1.0; settings_kept = refl; entry_in_table = tt })
 
   pub every_message_is_safe : (groups : Groups) (source : Address) (m : ℕ) (d : List ℕ) → source.0 ≤ 0xFFFFFF

@@ -1,11 +1,9 @@
 -- The node's own address and its groups (document 01, under the message table).
 -- Assumes nothing.
-use Rattle.std.specs.Prelude.{ℕ, List, [], ◌∷◌, get_or}
+use Rattle.std.specs.Prelude.{ℕ, List, [], ◌∷◌, get_or, Some}
 use Rattle.meaning.specs.Tables.{Row, ◌when◌}
 use Rattle.meaning.specs.Tests.{◌above◌}
-use Rattle.board.specs.Groups.{Groups}
-use Rattle.board.specs.declared.groups.Change.{Change}
-use Rattle.board.specs.declared.groups.Change.TheVariants.{Put}
+use Rattle.board.specs.Groups.{Groups, Change, put}
 use Rattle.board.specs.declared.whole.Node.{Node}
 use Rattle.messages.specs.Fields.{byte_at, shorter_than}
 use Rattle.messages.specs.Outcome.{acts, posts, refusing}
@@ -34,7 +32,7 @@ group_row n groups d = refusing n (group_codes 1 d (byte_at d 0)) (posts n 0x61 
 
 -- 51h SET_GROUP_ADDR, 4: index, group 24: store, any value.
 abbrev pub put_in : (index : ℕ) → List ℕ → Change
-put_in index d = Put index (byte_at d 1) (byte_at d 2) (byte_at d 3)
+put_in index d = Some (put index (byte_at d 1) (byte_at d 2) (byte_at d 3))
 
 unfoldable pub set_group_row : Node → List ℕ → Outcome
 set_group_row n d = refusing n (group_codes 4 d (byte_at d 0)) (acts n (put_in (byte_at d 0) d))

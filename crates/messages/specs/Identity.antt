@@ -1,12 +1,11 @@
 -- Label, version and serial number (document 02, 2026-01).
 -- Assumes nothing.
-use Rattle.std.specs.Prelude.{ℕ, zero, suc, ◌/◌, ◌%◌, List, [], ◌∷◌, ◌++◌}
+use Rattle.std.specs.Prelude.{ℕ, zero, suc, ◌/◌, ◌%◌, List, [], ◌∷◌, ◌++◌, None}
 use Rattle.meaning.specs.Tables.{Row, ◌when◌}
 use Rattle.meaning.specs.Tests.{fails}
 use Rattle.serial.specs.Serial.{serial_of}
 use Rattle.board.specs.Label.{is_label}
 use Rattle.board.specs.Node.{with_label}
-use Rattle.board.specs.declared.groups.Change.TheVariants.{Keep}
 use Rattle.board.specs.declared.plate.Plate.{Plate}
 use Rattle.board.specs.declared.whole.Node.{Node}
 use Rattle.messages.specs.Fields.{byte_at, shorter_than}
@@ -35,7 +34,7 @@ set_label_codes d =
     ∷ []
 
 unfoldable pub set_label_row : Node → List ℕ → Outcome
-set_label_row n d = refusing n (set_label_codes d) (acts (with_label n (label_in d)) Keep)
+set_label_row n d = refusing n (set_label_codes d) (acts (with_label n (label_in d)) None)
 
 -- 74h, 0: 75h: reference 24, low byte first, letter, number, reserved.
 abbrev pub version_of : Plate → List ℕ

@@ -1,17 +1,16 @@
 -- What a message comes to (document 01, under the message table): the node and the change of the group table, and what
 -- is to be said.
 -- Assumes nothing.
-use Rattle.std.specs.Prelude.{ℕ, List, [], ◌∷◌, length, take, replicate}
+use Rattle.std.specs.Prelude.{ℕ, List, [], ◌∷◌, length, take, replicate, None}
 use Rattle.meaning.specs.Tables.{Row, ◌when◌, decide}
 use Rattle.frame.specs.Writing.{over}
-use Rattle.board.specs.declared.groups.Change.{Change}
-use Rattle.board.specs.declared.groups.Change.TheVariants.{Keep}
 use Rattle.board.specs.declared.whole.Node.{Node}
 use Rattle.messages.specs.Code.{code_of}
 use Rattle.messages.specs.declared.code.Code.{Code}
 use Rattle.messages.specs.declared.outcome.Say.{Say}
 use Rattle.messages.specs.declared.outcome.Say.TheVariants.{Done, Post, Refuse}
 use Rattle.messages.specs.declared.outcome.Outcome.{Outcome}
+use Rattle.board.specs.Groups.{Change}
 
 abbrev pub outcome : Node → Change → Say → (count : ℕ) → (content : List ℕ) → Outcome
 outcome n change say count content = record { node = n; change = change; say = say; count = count; content = content }
@@ -30,11 +29,11 @@ acts after change = outcome after change Done 0 (in_twenty [])
 
 -- A GET changes nothing: MSG and DATA of its POST.
 abbrev pub posts : Node → (message : ℕ) → (content : List ℕ) → Outcome
-posts n message content = outcome n Keep (Post message) (length content) (in_twenty content)
+posts n message content = outcome n None (Post message) (length content) (in_twenty content)
 
 -- A refusal changes nothing: its code.
 abbrev pub refuses : Node → Code → Outcome
-refuses n code = outcome n Keep (Refuse code) 1 (in_twenty (code_of code ∷ []))
+refuses n code = outcome n None (Refuse code) 1 (in_twenty (code_of code ∷ []))
 
 -- A table of codes: the first row that applies refuses the message; where none does, it comes to `done`.
 abbrev pub refusals : Node → List (Row Code) → List (Row Outcome)

@@ -4,34 +4,21 @@ ghost use Rattle.messages.specs.Code.{code_of};
 
 #[derive(Clone, Copy)]
 pub enum Code {
-    // 10h.
-    UnknownMessage,
-    // 11h.
-    TooLittleData,
-    // 01h: a field out of range.
-    OutOfRange,
-    // 20h.
-    Locked,
-    // 25h: the lock's holder has a higher priority.
-    PriorityTooLow,
-    // FFh.
-    Blocked,
-    // 23h.
-    IpNotSet,
+    UnknownMessage = 0x10,
+    TooLittleData = 0x11,
+    // A field out of range.
+    OutOfRange = 0x01,
+    Locked = 0x20,
+    // The lock's holder has a higher priority.
+    PriorityTooLow = 0x25,
+    Blocked = 0xFF,
+    IpNotSet = 0x23,
 }
 
 impl Code {
     pub fn number(self) -> u8
         ensures { result ≡ code_of self }
     {
-        match self {
-            Code::UnknownMessage => 0x10,
-            Code::TooLittleData => 0x11,
-            Code::OutOfRange => 0x01,
-            Code::Locked => 0x20,
-            Code::PriorityTooLow => 0x25,
-            Code::Blocked => 0xFF,
-            Code::IpNotSet => 0x23,
-        }
+        self as u8
     }
 }

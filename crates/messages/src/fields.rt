@@ -1,7 +1,7 @@
-// The fields of a message's DATA, and of a reply's.
+// The fields of a message's DATA.
 ghost use Rattle.std.specs.Prelude.{◌≡◌};
 ghost use Rattle.frame.specs.Layout.{data_of};
-ghost use Rattle.messages.specs.Fields.{shorter_than, bit};
+ghost use Rattle.messages.specs.Fields.{shorter_than};
 
 use frame::data_count;
 
@@ -10,13 +10,4 @@ pub(crate) fn shorter_than(bundle: &[u8], least: usize) -> bool
     ensures { result ≡ (shorter_than least (data_of bundle.now)).holds }
 {
     data_count(bundle) < least
-}
-
-pub(crate) fn bit(flag: bool) -> u8
-    ensures { result ≡ bit flag }
-{
-    if flag {
-        return 1;
-    }
-    0
 }

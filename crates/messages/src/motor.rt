@@ -1,17 +1,15 @@
 // STOP, MOVETO, and what is told of the motor.
-ghost use Rattle.std.specs.Prelude.{◌≡◌};
+ghost use Rattle.std.specs.Prelude.{◌≡◌, Some};
 ghost use Rattle.board.specs.Drive.{halted};
 ghost use Rattle.board.specs.Node.{with_drive};
-ghost use Rattle.board.specs.declared.favourites.Ip.TheVariants.{At};
 ghost use Rattle.frame.specs.Layout.{data_of};
-ghost use Rattle.messages.specs.Motor.{to_ip, to_percent, aim_of, aim_in, is_aim, target_of, stop_row, moved, move_row};
+ghost use Rattle.messages.specs.Motor.{aim_of, aim_in, target_of, stop_row, move_row};
 ghost use Rattle.messages.specs.Motor.{position_data, position_row, status_data, status_row};
-ghost use Rattle.messages.specs.Outcome.{in_twenty};
 
 use crate::code::Code;
 use crate::fields::shorter_than;
-use crate::outcome::{Outcome, acts, in_twenty, out_of_range, posts, refuses, too_little_data};
-use board::{Ip, Node};
+use crate::outcome::{Outcome, acts, posts, refuses};
+use board::Node;
 use frame::{data_byte, word};
 use travel::{IpIndex, Percent, Pulse, percent_of_pulse, pulse_of_percent};
 
@@ -22,45 +20,43 @@ pub enum Aim {
     Up,
     ToIp(IpIndex),
     ToPercent(Percent),
-    // Out of range.
-    Nowhere,
 }
 
 // 02h STOP.
+#[tactic(auto, unfolding(crate::specs::Motor::stop_row))]
 pub(crate) fn stop(node: Node, bundle: &[u8]) -> Outcome
     ensures { result ≡ stop_row node (data_of bundle.now) }
 {
     if shorter_than(bundle, 1) {
-        return too_little_data(node);
+        return refuses(node, Code::TooLittleData);
     }
     if node.lock.locked {
         return refuses(node, Code::Locked);
     }
-    acts(halted(node))
+    acts(halted(node), None)
 }
 
 // 03h MOVETO: function, position, reserved.
+#[tactic(auto, unfolding(crate::specs::Motor::move_row))]
 pub(crate) fn move_to(node: Node, bundle: &[u8]) -> Outcome
     ensures { result ≡ move_row node (data_of bundle.now) }
 {
     if shorter_than(bundle, 4) {
-        return too_little_data(node);
+        return refuses(node, Code::TooLittleData);
     }
-    let aim = aim_in(bundle);
-    if !is_aim(aim) {
-        return out_of_range(node);
-    }
+    let Some(aim) = aim_in(bundle) else {
+        return refuses(node, Code::OutOfRange);
+    };
     if node.lock.locked {
         return refuses(node, Code::Locked);
     }
     if node.drive.blocked {
         return refuses(node, Code::Blocked);
     }
-    let target = target_of(node, aim);
-    let Ip::At(pulse) = target else {
+    let Some(target) = target_of(node, aim) else {
         return refuses(node, Code::IpNotSet);
     };
-    moved(node, pulse)
+    acts(node.with_drive(node.drive.moved_to(target)), None)
 }
 
 // 0Ch, answered 0Dh: pulse, percent, reserved, IP.
@@ -68,7 +64,7 @@ pub(crate) fn move_to(node: Node, bundle: &[u8]) -> Outcome
 pub(crate) fn post_position(node: Node) -> Outcome
     ensures { result ≡ position_row node }
 {
-    posts(node, 0x0D, 5, position_told(node))
+    posts(node, 0x0D, &position_told(node))
 }
 
 // 0Eh, answered 0Fh: status, direction, source, cause.
@@ -76,7 +72,7 @@ pub(crate) fn post_position(node: Node) -> Outcome
 pub(crate) fn post_status(node: Node) -> Outcome
     ensures { result ≡ status_row node }
 {
-    posts(node, 0x0F, 4, status_told(node))
+    posts(node, 0x0F, &status_told(node))
 }
 
 // A running motor becomes stopped.
@@ -86,100 +82,63 @@ pub(crate) fn halted(node: Node) -> Node
     node.with_drive(node.drive.halted())
 }
 
-fn moved(node: Node, target: Pulse) -> Outcome
-    ensures { result ≡ moved node (At target) }
-{
-    acts(node.with_drive(node.drive.moved_to(target)))
-}
-
-fn aim_in(bundle: &[u8]) -> Aim
+// None where it is out of range.
+fn aim_in(bundle: &[u8]) -> Option<Aim>
     ensures { result ≡ aim_in (data_of bundle.now) }
 {
     let position = word(data_byte(bundle, 1), data_byte(bundle, 2));
     aim_of(data_byte(bundle, 0), position)
 }
 
-fn aim_of(function: u8, position: u16) -> Aim
+fn aim_of(function: u8, position: u16) -> Option<Aim>
     ensures { result ≡ aim_of function position }
 {
     match function {
-        0 => Aim::Down,
-        1 => Aim::Up,
-        2 => to_ip(position),
-        4 => to_percent(position),
-        _ => Aim::Nowhere,
-    }
-}
-
-fn to_ip(position: u16) -> Aim
-    ensures { result ≡ to_ip position }
-{
-    if position < 1 {
-        return Aim::Nowhere;
-    }
-    if position > 16 {
-        return Aim::Nowhere;
-    }
-    Aim::ToIp(IpIndex(position as u8))
-}
-
-fn to_percent(position: u16) -> Aim
-    ensures { result ≡ to_percent position }
-{
-    if position > 100 {
-        return Aim::Nowhere;
-    }
-    Aim::ToPercent(Percent(position as u8))
-}
-
-fn is_aim(aim: Aim) -> bool
-    ensures { result ≡ is_aim aim }
-{
-    match aim {
-        Aim::Down => true,
-        Aim::Up => true,
-        Aim::ToIp(_) => true,
-        Aim::ToPercent(_) => true,
-        Aim::Nowhere => false,
+        0 => Some(Aim::Down),
+        1 => Some(Aim::Up),
+        2 if (1..=16).contains(&position) => Some(Aim::ToIp(IpIndex(position as u8))),
+        4 if position <= 100 => Some(Aim::ToPercent(Percent(position as u8))),
+        _ => None,
     }
 }
 
 // The pulse to go to; none where the IP is not set.
-fn target_of(node: Node, aim: Aim) -> Ip
-    ensures { result ≡ target_of node aim }
+fn target_of(node: Node, aim: Aim) -> Option<Pulse>
+    ensures { result ≡ target_of node (Some aim) }
 {
     let travel = node.settings.travel;
-    let favourites = node.favourites;
     match aim {
-        Aim::Down => Ip::At(travel),
-        Aim::Up => Ip::At(Pulse(0)),
-        Aim::ToIp(index) => favourites.ip_at(index),
-        Aim::ToPercent(percent) => Ip::At(pulse_of_percent(percent, travel)),
-        Aim::Nowhere => Ip::Unset,
+        Aim::Down => Some(travel),
+        Aim::Up => Some(Pulse(0)),
+        Aim::ToIp(index) => node.favourites.ip_at(index),
+        Aim::ToPercent(percent) => Some(pulse_of_percent(percent, travel)),
     }
 }
 
 // Pulse, percent, reserved, IP.
-fn position_told(node: Node) -> [u8; 20]
-    ensures { result ≡ in_twenty (position_data node) }
+fn position_told(node: Node) -> [u8; 5]
+    ensures { result ≡ position_data node }
 {
     let position = node.drive.position;
-    let low = (position.0 % 256) as u8;
-    let high = (position.0 / 256) as u8;
+    let [low, high] = position.0.to_le_bytes();
     let percent = percent_of_pulse(position, node.settings.travel);
-    let ip = node.favourites.reported_ip(position);
-    in_twenty(&[low, high, percent.0, 0xFF, ip])
+    [
+        low,
+        high,
+        percent.0,
+        0xFF,
+        node.favourites.reported_ip(position),
+    ]
 }
 
 // Status, direction, source, cause.
-fn status_told(node: Node) -> [u8; 20]
-    ensures { result ≡ in_twenty (status_data node) }
+fn status_told(node: Node) -> [u8; 4]
+    ensures { result ≡ status_data node }
 {
-    let status = node.status();
-    in_twenty(&[
-        status,
+    [
+        node.status(),
         node.drive.direction,
         node.drive.source,
         node.drive.cause,
-    ])
+    ]
 }

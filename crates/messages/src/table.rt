@@ -10,6 +10,8 @@ use board::Node;
 use frame::Address;
 
 // One row for each message; 10h for any other. SOURCE is needed to lock, and the bundle for its DATA.
+// Stays: node and bundle beside each other, since a struct of both would be made here once and taken apart in each row.
+// Stays: the number on the wire, since document 01's table and the promises (`status_is_told`) speak of MSG as one.
 #[tactic(auto, unfolding(crate::specs::Table::outcome_of))]
 pub fn outcome_of(
     node: Node,

@@ -15,16 +15,12 @@ use Rattle.frame.specs.Reading.{IsFrame}
 use Rattle.runs.proofs.Order.{else_false}
 use Rattle.motors.specs.Motor.{unread, with_reading, marked}
 use Rattle.motors.specs.Register.{held, filled, sound_of, found_in, found}
-use Rattle.motors.specs.Report.{report_of, pulse_in, percent_in, ip_in}
+use Rattle.motors.specs.Report.{report_of, pulse_in, percent_in, ip_in, Report}
 use Rattle.runs.specs.Ordered.{is_some}
 use Rattle.motors.specs.Order.{Key, key_of, same, same_is}
 use Rattle.motors.specs.Filing.{keeping, entered, keep_table, kept_of, reported_by, file_table, filing_of, filed_of, count_after}
-use Rattle.motors.specs.declared.answer.Answer.{Answer}
-use Rattle.motors.specs.declared.answer.Answer.TheVariants.{Count, Refused}
 use Rattle.motors.specs.declared.answer.Next.{Next}
 use Rattle.motors.specs.declared.motor.Motor.{Motor}
-use Rattle.motors.specs.declared.report.Report.{Report}
-use Rattle.motors.specs.declared.report.Report.TheVariants as report
 use Rattle.motors.proofs.Sound.{sound_is, is_sound_lem, length_held, held_again}
 use Rattle.motors.proofs.Entered.{
   renewed_if,
@@ -39,6 +35,8 @@ use Rattle.motors.proofs.Entered.{
   entered_right,
 }
 use Rattle.motors.proofs.Shown.{Shown, seen}
+use Rattle.motors.specs.Answer.{Answer}
+use Rattle.std.specs.Prelude.{Ok, Err}
 
 -- A reading takes the place of whatever was there.
 latest : (f : Option Motor) (line node pulse percent ip : ℕ)
@@ -58,13 +56,13 @@ module _ (run : List Motor) (count line : ℕ) (b : List ℕ) where
     number : n ≡ length (entered (held run count) motor)
 
   abbrev Filed : Next → Answer → Type 0
-  Filed x (Count n) = Entered x.motors n
-  Filed x (Refused r) = x.motors ≡ run
+  Filed x (Ok n) = Entered x.motors n
+  Filed x (Err r) = x.motors ≡ run
 
   abbrev As : Next → Type 0
   As x = Filed x x.answer
 
-  entered_as : sound_of run count ≡ true → (m : Motor) → report_of line b ≡ report.Seen m → As (kept_of run (entered (held run count) m))
+  entered_as : sound_of run count ≡ true → (m : Motor) → report_of line b ≡ Ok m → As (kept_of run (entered (held run count) m))
   unfolding kept_of
   entered_as ok m e =
       let s = seen line b m e in
@@ -80,8 +78,8 @@ module _ (run : List Motor) (count line : ℕ) (b : List ℕ) where
       })
 
   reported_as : sound_of run count ≡ true → (r : Report) → report_of line b ≡ r → As (reported_by entered run count r)
-  reported_as ok (report.Seen m) e = entered_as ok m e
-  reported_as ok (report.Refused q) e = refl
+  reported_as ok (Ok m) e = entered_as ok m e
+  reported_as ok (Err q) e = refl
 
   filed_as : As (filed_of run count line b)
   unfolding filing_of
@@ -93,10 +91,10 @@ module _ (run : List Motor) (count line : ℕ) (b : List ℕ) where
   after = filed_of run count line b
 
   -- ---- demand 1
-  pub a_refused_frame_changes_no_record : (r : Refusal) → after.answer ≡ Refused r → after.motors ≡ run
+  pub a_refused_frame_changes_no_record : (r : Refusal) → after.answer ≡ Err r → after.motors ≡ run
   a_refused_frame_changes_no_record r e = subst (Filed after) e filed_as
 
-  module _ (n : ℕ) (accepted : after.answer ≡ Count n) where
+  module _ (n : ℕ) (accepted : after.answer ≡ Ok n) where
     done : Entered after.motors n
     done = subst (Filed after) accepted filed_as
 
@@ -186,8 +184,8 @@ module _ (run : List Motor) (count line : ℕ) (b : List ℕ) where
 
   -- A register once sound stays so, whatever is filed.
   still_sound : (x : Answer) → after.answer ≡ x → sound_of run count ≡ true → sound_of after.motors (count_after count x) ≡ true
-  still_sound (Count n) e ok = the_register_stays_sound n e
-  still_sound (Refused r) e ok = ap (λ (l : List Motor). sound_of l count) (a_refused_frame_changes_no_record r e) ∙ ok
+  still_sound (Ok n) e ok = the_register_stays_sound n e
+  still_sound (Err r) e ok = ap (λ (l : List Motor). sound_of l count) (a_refused_frame_changes_no_record r e) ∙ ok
 
   pub a_sound_register_stays_sound : sound_of run count ≡ true → sound_of after.motors (count_after count after.answer) ≡ true
   a_sound_register_stays_sound ok = still_sound after.answer refl ok

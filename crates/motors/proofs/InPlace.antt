@@ -9,7 +9,6 @@ use mathlib.Core.Option.{Option, none, some}
 use lib.Dec.{leb}
 use lib.ListN.{length, set}
 use borrow.Author.Tests.{leb-true, leb-false, ne_eqb}
-use Rattle.meaning.specs.Choice.{either}
 use Rattle.meaning.specs.Cases.{by_test, passed_both}
 use Rattle.refusal.specs.declared.Refusal.{Refusal}
 use Rattle.runs.specs.Ordered.{is_some, looked_up, holds, place_of}
@@ -23,34 +22,35 @@ use Rattle.runs.proofs.InPlace.{set_at_its_place_is_placed, moved_up_from_its_pl
 use Rattle.motors.specs.Motor.{zeros, unread, is_line, right_of}
 use Rattle.motors.specs.Order.{by_line_and_node, key_of, same_is}
 use Rattle.motors.specs.Register.{held, sound_of, Right, Sound}
-use Rattle.motors.specs.Report.{subject_of, shows_reading}
+use Rattle.motors.specs.Report.{subject_of, shows_reading, Report}
 use Rattle.motors.specs.Found.{found_of, standing}
 use Rattle.motors.specs.Filing.{keeping, recorded, enrolled, entered, kept_of, reported_by, filing_of, struck_of}
-use Rattle.motors.specs.Edit.{edit, leaving, adding, to_remove, to_miss, to_enrol, to_file, to_strike, applied}
-use Rattle.motors.specs.declared.answer.Answer.{Answer}
-use Rattle.motors.specs.declared.answer.Answer.TheVariants.{Count, Refused}
+use Rattle.motors.specs.Edit.{edit, leaving, adding, to_remove, to_miss, to_enrol, to_file, to_strike, moved, applied}
 use Rattle.motors.specs.declared.answer.Next.{Next}
 use Rattle.motors.specs.declared.edit.Edit.{Edit}
+use Rattle.motors.specs.declared.edit.Way.{Way}
+use Rattle.motors.specs.declared.edit.Way.TheVariants.{Up, Down}
 use Rattle.motors.specs.declared.found.Found.TheVariants.{Broken, Held, New}
 use Rattle.motors.specs.declared.motor.Motor.{Motor}
-use Rattle.motors.specs.declared.report.Report.{Report}
-use Rattle.motors.specs.declared.report.Report.TheVariants as report
 use Rattle.motors.proofs.Rows.{kept_by, filed_by, as_reported, struck_by}
 pub use Rattle.motors.proofs.OnePass.{found_by_one_pass}
 use Rattle.motors.proofs.Sound.{sound_is, length_held}
+use Rattle.motors.specs.Answer.{Answer}
+use Rattle.std.specs.Prelude.{Ok, Err}
 
 abbrev next : List Motor → ℕ → Next
-next motors number = record { motors = motors; answer = Count number }
+next motors number = record { motors = motors; answer = Ok number }
 
 -- The places and the answer after an edit.
 abbrev pub edited : List Motor → Edit → Next
 edited run e = record { motors = applied run e; answer = e.answer }
 
+length_moved : (w : Way) (run : List Motor) (from last : ℕ) (m : Motor) → length (moved w run from last m) ≡ length run
+length_moved Up run from last m = moved_up_keeps_the_length zeros run from last m
+length_moved Down run from last m = moved_down_keeps_the_length zeros run from last m
+
 pub length_applied : (run : List Motor) (e : Edit) → length (applied run e) ≡ length run
-length_applied run e =
-    either (λ (l : List Motor). length l ≡ length run) e.up
-    (λ t. moved_up_keeps_the_length zeros run e.from e.last e.motor)
-    (λ t. moved_down_keeps_the_length zeros run e.from e.last e.motor)
+length_applied run e = length_moved e.way run e.from e.last e.motor
 
 -- An edit of no place.
 left_alone : (run : List Motor) (a : Answer) → edited run (leaving a) ≡ record { motors = run; answer = a }
@@ -78,9 +78,9 @@ module _ (run : List Motor) (count : ℕ) (ok : sound_of run count ≡ true) whe
     p = place_of by_line_and_node l (key_of m)
 
     module _ (there : holds by_line_and_node l (key_of m) ≡ true) where
-      pub confirmed : edited run (leaving (Count count)) ≡ kept_of run l
+      pub confirmed : edited run (leaving (Ok count)) ≡ kept_of run l
       confirmed =
-          left_alone run (Count count) ∙ ap₂ next sound.zeros_behind (sym number) ∙ sym (kept l few)
+          left_alone run (Ok count) ∙ ap₂ next sound.zeros_behind (sym number) ∙ sym (kept l few)
 
       same_number : length (recorded l m) ≡ count
       same_number = placed_over_one_held_keeps_the_number by_line_and_node l m sound.ascending there ∙ number
@@ -89,7 +89,7 @@ module _ (run : List Motor) (count : ℕ) (ok : sound_of run count ≡ true) whe
       within =
           omega (arith, ((held_exactly_when_at_its_place by_line_and_node zeros l (key_of m) sound.ascending).0 there).0, few, sound.of_256_places)
 
-      pub renewed : edited run (edit true p p m (Count count)) ≡ kept_of run (recorded l m)
+      pub renewed : edited run (edit Up p p m (Ok count)) ≡ kept_of run (recorded l m)
       renewed =
           ap₂ next
           (moved_up_at_one_place_is_set zeros run m p within
@@ -107,7 +107,7 @@ module _ (run : List Motor) (count : ℕ) (ok : sound_of run count ≡ true) whe
       added =
           by_test (leb 256 count)
           (λ t. rw t
-          (left_alone run (Refused Refusal.RegisterFull)
+          (left_alone run (Err Refusal.RegisterFull)
           ∙ sym (kept_by run (recorded l m) 0 (omega (arith, one_more, leb-true 256 count t)))))
           (λ t.
           let room = leb-false 256 count t in
@@ -132,24 +132,24 @@ module _ (run : List Motor) (count : ℕ) (ok : sound_of run count ≡ true) whe
 
   enrols_sound : (r : Report) → edited run (to_enrol (found_of run count (subject_of r)) count r) ≡ reported_by enrolled run count r
   unfolding enrolled
-  enrols_sound (report.Seen m) =
+  enrols_sound (Ok m) =
       by_test (holds by_line_and_node l (key_of m))
       (λ h. rw (where_held m h, h) (confirmed m h))
       (λ h. rw (where_new m h, h) (added m h))
-  enrols_sound (report.Refused q) =
+  enrols_sound (Err q) =
       by_test (holds by_line_and_node l (key_of zeros))
-      (λ h. rw (where_held zeros h) (left_alone run (Refused q)))
-      (λ h. rw (where_new zeros h) (left_alone run (Refused q)))
+      (λ h. rw (where_held zeros h) (left_alone run (Err q)))
+      (λ h. rw (where_new zeros h) (left_alone run (Err q)))
 
   files_sound : (r : Report) → edited run (to_file (found_of run count (subject_of r)) count r) ≡ reported_by recorded run count r
-  files_sound (report.Seen m) =
+  files_sound (Ok m) =
       by_test (holds by_line_and_node l (key_of m))
       (λ h. rw (where_held m h) (renewed m h))
       (λ h. rw (where_new m h) (added m h))
-  files_sound (report.Refused q) =
+  files_sound (Err q) =
       by_test (holds by_line_and_node l (key_of zeros))
-      (λ h. rw (where_held zeros h) (left_alone run (Refused q)))
-      (λ h. rw (where_new zeros h) (left_alone run (Refused q)))
+      (λ h. rw (where_held zeros h) (left_alone run (Err q)))
+      (λ h. rw (where_new zeros h) (left_alone run (Err q)))
 
   module _ (line node : ℕ) where
     abbrev motor : Motor
@@ -182,9 +182,9 @@ module _ (run : List Motor) (count : ℕ) (ok : sound_of run count ≡ true) whe
     missed h =
         by_test (is_line line)
         (λ t. rw t
-        (left_alone run (Refused Refusal.NotHeld)
+        (left_alone run (Err Refusal.NotHeld)
         ∙ sym (struck_by run count line node 2 (ok, (leb-true line 3 t, not_held_is_none by_line_and_node l (line, node) h)))))
-        (λ t. rw t (left_alone run (Refused Refusal.NoSuchLine) ∙ sym (struck_by run count line node 1 (ok, leb-false line 3 t))))
+        (λ t. rw t (left_alone run (Err Refusal.NoSuchLine) ∙ sym (struck_by run count line node 1 (ok, leb-false line 3 t))))
 
     strikes_sound : edited run (to_strike (found_of run count motor) count line) ≡ struck_of run count line node
     strikes_sound =
@@ -202,27 +202,27 @@ module _ (run : List Motor) (count : ℕ) where
   enrols r =
       by_test (sound_of run count)
       (λ ok. enrols_sound run count ok r ∙ sym (as_reported enrolled run count r ok))
-      (λ e. rw (broken (subject_of r) e) (left_alone run (Refused Refusal.BrokenRegister) ∙ sym (filed_by enrolled run count r 0 e)))
+      (λ e. rw (broken (subject_of r) e) (left_alone run (Err Refusal.BrokenRegister) ∙ sym (filed_by enrolled run count r 0 e)))
 
   pub files : (r : Report) → edited run (to_file (found_of run count (subject_of r)) count r) ≡ filing_of recorded run count r
   files r =
       by_test (sound_of run count)
       (λ ok. files_sound run count ok r ∙ sym (as_reported recorded run count r ok))
-      (λ e. rw (broken (subject_of r) e) (left_alone run (Refused Refusal.BrokenRegister) ∙ sym (filed_by recorded run count r 0 e)))
+      (λ e. rw (broken (subject_of r) e) (left_alone run (Err Refusal.BrokenRegister) ∙ sym (filed_by recorded run count r 0 e)))
 
   pub strikes : (line node : ℕ) → edited run (to_strike (found_of run count (unread line node)) count line) ≡ struck_of run count line node
   strikes line node =
       by_test (sound_of run count)
       (λ ok. strikes_sound run count ok line node)
-      (λ e. rw (broken (unread line node) e) (left_alone run (Refused Refusal.BrokenRegister) ∙ sym (struck_by run count line node 0 e)))
+      (λ e. rw (broken (unread line node) e) (left_alone run (Err Refusal.BrokenRegister) ∙ sym (struck_by run count line node 0 e)))
 
   -- Filing goes by what the report shows.
   reported_by_kind : (r : Report)
       → (shows_reading r ≡ true → reported_by entered run count r ≡ reported_by recorded run count r)
       × (shows_reading r ≡ false → reported_by entered run count r ≡ reported_by enrolled run count r)
   unfolding entered
-  reported_by_kind (report.Seen m) = (λ t. rw t, λ t. rw t)
-  reported_by_kind (report.Refused q) = (λ t. refl, λ t. refl)
+  reported_by_kind (Ok m) = (λ t. rw t, λ t. rw t)
+  reported_by_kind (Err q) = (λ t. refl, λ t. refl)
 
   pub by_kind : (r : Report)
       → (shows_reading r ≡ true → filing_of entered run count r ≡ filing_of recorded run count r)

@@ -1,17 +1,17 @@
 -- Fields put together as one number say what the fields say one by one: the order of keys, and zeros.
 -- Assumes nothing.
 use Rattle.std.specs.Prelude.{if◌then◌else◌}
-use Prim.Native.Nat.{ℕ, ◌+◌, ◌*◌, ◌<◌, ◌≤◌, ◌^◌, ◌%◌}
+use Prim.Native.Nat.{ℕ, ◌+◌, ◌*◌, ◌<◌, ◌≤◌, ◌^◌}
 use native.Mathlib.Omega.{arith}
 use mathlib.Core.Path.{◌≡◌, refl, ◌∙◌, sym, ap}
-use mathlib.Core.Logic.{◌≢◌, ◌⊎◌, inl, inr}
-use mathlib.Core.Bool.{Bool, true, false, not, ◌&&◌, ◌||◌}
+use mathlib.Core.Logic.{inl, inr}
+use mathlib.Core.Bool.{Bool, true, false}
 use mathlib.Core.List.{List, [], ◌∷◌}
 use lib.Bits.{bit_or, or_add_and, and_le_l, and_le_r}
-use lib.Dec.{eqb, ltb, leb}
-use borrow.Author.Tests.{eqb-true, eqb-false, lt-ltb, le-ltb, le-leb, lt-leb, eq-eqb, ne_eqb}
+use lib.Dec.{eqb, ltb}
+use borrow.Author.Tests.{eqb-true, eqb-false, lt-ltb, le-ltb, eq-eqb, ne_eqb}
 use Rattle.meaning.specs.Cases.{by_test}
-use Rattle.motors.specs.Motor.{is_reading, blank_of, unread_part, key_number, rest_number}
+use Rattle.motors.specs.Motor.{blank_of, unread_part, key_number, rest_number}
 use Rattle.motors.specs.Register.{all_blank}
 use Rattle.motors.specs.Found.{bits_of}
 use Rattle.motors.specs.Order.{Before, key_of, same, earlier_of, as_said, same_is, else_behind}
@@ -51,39 +51,6 @@ module _ (x y : Motor) (fits : x.node < 2 ^ 32) (fits' : y.node < 2 ^ 32) where
 
       apart : key_number x ≡ key_number y → same (key_of x) (key_of y) ≡ false → ⊥
       apart e s = eqb-false _ _ (rw (eq-eqb _ _ (line_same e)) at s) (node_same e)
-
--- ---- an IP, with FFh and 0 side by side
-module _ (ip : ℕ) (byte : ip < 256) where
-  abbrev next : ℕ
-  next = (ip + 1) % 256
-
-  -- The next number begins again behind FFh.
-  next_is : ((ip ≡ 255) × (next ≡ 0)) ⊎ ((ip ≢ 255) × (next ≡ ip + 1))
-  next_is =
-      by_test (eqb ip 255)
-      (λ e. inl (eqb-true ip 255 e, ap (λ (n : ℕ). (n + 1) % 256) (eqb-true ip 255 e)))
-      (λ e. inr (eqb-false ip 255 e, omega (arith, eqb-false ip 255 e)))
-
-  pub reading_right_lem : (percent : ℕ) → percent ≤ 100 → next ≤ 17 → not (eqb next 1) ≡ is_reading percent ip
-  unfolding is_reading
-  reading_right_lem percent p h = rw (le-leb percent 100 p) (decided next_is)
-    where
-      decided : ((ip ≡ 255) × (next ≡ 0)) ⊎ ((ip ≢ 255) × (next ≡ ip + 1)) → not (eqb next 1) ≡ (eqb ip 255 || (leb 1 ip && leb ip 16))
-      decided (inl (i, n)) = rw (n, i)
-      decided (inr (i, n)) =
-          by_test (eqb ip 0)
-          (λ z. let zero = eqb-true ip 0 z in rw (n, zero))
-          (λ z.
-          let some = eqb-false ip 0 z in
-          rw (ne_eqb next 1 (λ e. some (omega arith)), ne_eqb ip 255 i, le-leb 1 ip (omega (arith, some)), le-leb ip 16 (omega arith)))
-
-  pub no_reading : (percent : ℕ) → percent ≤ 100 → 17 < next → false ≡ is_reading percent ip
-  unfolding is_reading
-  no_reading percent p h = rw (le-leb percent 100 p) (decided next_is)
-    where
-      decided : ((ip ≡ 255) × (next ≡ 0)) ⊎ ((ip ≢ 255) × (next ≡ ip + 1)) → false ≡ (eqb ip 255 || (leb 1 ip && leb ip 16))
-      decided (inl (i, n)) = absurd (omega (arith, n, h))
-      decided (inr (i, n)) = rw (ne_eqb ip 255 i, le-leb 1 ip (omega (arith, n, h)), lt-leb ip 16 (omega (arith, n, h)))
 
 -- ---- zeros
 pub rest_zero : (m : Motor) → eqb (rest_number m) 0 ≡ unread_part m

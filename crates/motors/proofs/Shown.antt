@@ -12,17 +12,14 @@ use Rattle.meaning.specs.Choice.{either}
 use Rattle.meaning.specs.Tests.{holds_by}
 use Rattle.meaning.specs.Tables.{Passed, of_decided}
 use Rattle.frame.specs.Layout.{header_of, data_of, data_count}
-use Rattle.frame.specs.Reading.{reading_of, refused_by, IsFrame}
+use Rattle.frame.specs.Reading.{reading_of, refused_by, IsFrame, Reading}
 use Rattle.frame.specs.declared.header.Header.{Header}
-use Rattle.frame.specs.declared.reading.Reading.{Reading}
-use Rattle.frame.specs.declared.reading.Reading.TheVariants as reading
 use Rattle.frame.proofs.Frames.{frame_exactly_when, frame_is_read}
 use Rattle.motors.specs.Motor.{unread, with_reading, is_line, a_node, is_node, a_reading, is_reading, unread_part, reading_part}
 use Rattle.motors.specs.Motor.{right_beside_line, right_of}
-use Rattle.motors.specs.Report.{report_table, shown_by, reported, report_by, report_of, pulse_in, percent_in, ip_in}
+use Rattle.motors.specs.Report.{report_table, shown_by, reported, report_by, report_of, pulse_in, percent_in, ip_in, Report}
 use Rattle.motors.specs.declared.motor.Motor.{Motor}
-use Rattle.motors.specs.declared.report.Report.{Report}
-use Rattle.motors.specs.declared.report.Report.TheVariants.{Seen, Refused}
+use Rattle.std.specs.Prelude.{Ok, Err}
 
 unread_right : (line node : ℕ) → is_line line ≡ true → is_node node ≡ true → right_of (unread line node) ≡ true
 unfolding right_of right_beside_line reading_part unread_part
@@ -42,8 +39,8 @@ pub record Shown (line : ℕ) (h : Header) (d : List ℕ) (m : Motor) : Type 0 w
   pub by_0dh : h.message ≡ 0x0D → m ≡ with_reading line h.source.0 (pulse_in d) (percent_in d) (ip_in d)
 
 abbrev IfSeen : ℕ → Header → List ℕ → Report → Type 0
-IfSeen line h d (Seen m) = Shown line h d m
-IfSeen line h d (Refused r) = Unit {0}
+IfSeen line h d (Ok m) = Shown line h d m
+IfSeen line h d (Err r) = Unit {0}
 
 module _ (line : ℕ) (h : Header) (count : ℕ) (d : List ℕ) where
   -- The two messages that show a motor.
@@ -80,23 +77,23 @@ module _ (line : ℕ) (h : Header) (count : ℕ) (d : List ℕ) where
 
   shown : IfSeen line h d (reported line h count d)
   unfolding reported
-  shown = of_decided (IfSeen line h d) (report_table line h count d) (Seen (shown_by line h d)) (search) shown_by_lem
+  shown = of_decided (IfSeen line h d) (report_table line h count d) (Ok (shown_by line h d)) (search) shown_by_lem
 
 -- A bundle that shows a motor is a frame.
 module _ (line : ℕ) (b : List ℕ) where
   abbrev IfSeenIn : Report → Type 0
-  IfSeenIn (Seen m) = IsFrame b × Shown line (header_of b) (data_of b) m
-  IfSeenIn (Refused r) = Unit {0}
+  IfSeenIn (Ok m) = IsFrame b × Shown line (header_of b) (data_of b) m
+  IfSeenIn (Err r) = Unit {0}
 
   framed : IsFrame b → (r : Report) → reported line (header_of b) (data_count b) (data_of b) ≡ r → IfSeenIn r
-  framed f (Seen m) e = (f, subst (IfSeen line (header_of b) (data_of b)) e (shown line (header_of b) (data_count b) (data_of b)))
-  framed f (Refused q) e = tt
+  framed f (Ok m) e = (f, subst (IfSeen line (header_of b) (data_of b)) e (shown line (header_of b) (data_count b) (data_of b)))
+  framed f (Err q) e = tt
 
   read_as : (r : Reading) → reading_of b ≡ r → IfSeenIn (report_by line b r)
-  read_as (reading.Frame h k) e =
+  read_as (Ok (h, k)) e =
       let f = (frame_exactly_when b).1 (ap refused_by e) in
       subst (λ (r : Reading). IfSeenIn (report_by line b r)) (sym (frame_is_read b f) ∙ e) (framed f _ refl)
-  read_as (reading.Refused q) e = tt
+  read_as (Err q) e = tt
 
-  pub seen : (m : Motor) → report_of line b ≡ Seen m → IsFrame b × Shown line (header_of b) (data_of b) m
+  pub seen : (m : Motor) → report_of line b ≡ Ok m → IsFrame b × Shown line (header_of b) (data_of b) m
   seen m e = subst IfSeenIn e (read_as (reading_of b) refl)

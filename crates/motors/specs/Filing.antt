@@ -1,7 +1,7 @@
 -- Filing a frame and striking a motor out: the answer and the places at the end (document 01, "The register", rows 19
 -- to 25).
 -- Assumes nothing.
-use Rattle.std.specs.Prelude.{if◌then◌else◌, ℕ, ◌≡◌, refl, true, not, List, [], ◌∷◌, length}
+use Rattle.std.specs.Prelude.{if◌then◌else◌, ℕ, ◌≡◌, refl, true, not, List, [], ◌∷◌, length, Ok, Err}
 use Rattle.std.proofs.Common.{◌∙◌, sym, ap}
 use Rattle.std.proofs.lemmas.Bool.{false≢true, not-false}
 use Rattle.std.proofs.Math.Option.{Option, none, some}
@@ -12,20 +12,17 @@ use Rattle.runs.specs.Ordered.{is_some, holds, placed, without}
 use Rattle.motors.specs.Motor.{marked}
 use Rattle.motors.specs.Order.{by_line_and_node, key_of}
 use Rattle.motors.specs.Register.{places, held, filled, sound_of, found}
-use Rattle.motors.specs.Report.{report_of}
-use Rattle.motors.specs.declared.answer.Answer.{Answer}
-use Rattle.motors.specs.declared.answer.Answer.TheVariants.{Count, Refused}
+use Rattle.motors.specs.Report.{report_of, Report}
 use Rattle.motors.specs.declared.answer.Next.{Next}
 use Rattle.motors.specs.declared.motor.Motor.{Motor}
-use Rattle.motors.specs.declared.report.Report.{Report}
-use Rattle.motors.specs.declared.report.Report.TheVariants as report
+use Rattle.motors.specs.Answer.{Answer}
 
 -- Done, with these records held; or refused, with every place as it was.
 abbrev pub keeping : List Motor → Next
-keeping l = record { motors = filled l; answer = Count (length l) }
+keeping l = record { motors = filled l; answer = Ok (length l) }
 
 abbrev pub refusing : List Motor → Refusal → Next
-refusing run r = record { motors = run; answer = Refused r }
+refusing run r = record { motors = run; answer = Err r }
 
 -- A reading: it takes the place of the last one, or its motor gets its place in the order.
 abbrev pub recorded : List Motor → Motor → List Motor
@@ -49,8 +46,8 @@ kept_of run l = decide (keep_table run l) (keeping l)
 
 -- A report, entered in one of these ways.
 abbrev pub reported_by : (List Motor → Motor → List Motor) → List Motor → ℕ → Report → Next
-reported_by enter run count (report.Seen m) = kept_of run (enter (held run count) m)
-reported_by enter run count (report.Refused r) = refusing run r
+reported_by enter run count (Ok m) = kept_of run (enter (held run count) m)
+reported_by enter run count (Err r) = refusing run r
 
 -- Why no frame is looked at: row 19.
 abbrev pub file_table : List Motor → ℕ → List (Row Next)
@@ -96,5 +93,5 @@ struck_of run count line node =
 
 -- The count after a call: the answer's, or the one before.
 abbrev pub count_after : ℕ → Answer → ℕ
-count_after count (Count n) = n
-count_after count (Refused r) = count
+count_after count (Ok n) = n
+count_after count (Err r) = count

@@ -2,6 +2,7 @@ pub mod Order
 pub mod Motor
 pub mod Register
 pub mod Report
+pub mod Answer
 pub mod Filing
 pub mod Passing
 pub mod Found

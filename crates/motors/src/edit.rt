@@ -1,42 +1,47 @@
 // What a call does to the places.
-ghost use Rattle.std.specs.Prelude.{◌≡◌};
-ghost use Rattle.motors.specs.Edit.{to_enrol, to_file, to_strike, to_confirm, to_renew, to_add, to_remove, to_miss, adding, leaving};
+ghost use Rattle.std.specs.Prelude.{◌≡◌, Ok, Err};
+ghost use Rattle.motors.specs.Edit.{to_enrol, to_file, to_strike, to_renew, to_remove, to_miss, adding, leaving};
 
-use crate::answer::{Answer, PLACES};
+use crate::answer::PLACES;
 use crate::found::Found;
 use crate::motor::{Motor, is_line, unread};
-use crate::report::Report;
 use refusal::Refusal;
 
-// The records from one place to another each move by one, up or down, and a motor takes the place that comes free.
+// Which way records move.
+#[derive(Clone, Copy)]
+pub enum Way {
+    Up,
+    Down,
+}
+
+// The records from one place to another each move by one, and a motor takes the place that comes free.
 #[derive(Clone, Copy)]
 pub struct Edit {
-    pub up: bool,
+    pub way: Way,
     pub from: usize,
     pub last: usize,
     pub motor: Motor,
-    pub answer: Answer,
+    pub answer: Result<usize, Refusal>,
 }
 
-// A motor that names itself: row 19, then what the frame reports. One that is held changes nothing.
-pub fn to_enrol(found: Found, count: usize, report: Report) -> Edit
+// A motor that names itself: row 19, then what the frame reports. One that is held changes nothing, a new one is filed.
+pub fn to_enrol(found: Found, count: usize, report: Result<Motor, Refusal>) -> Edit
     ensures { result ≡ to_enrol found count report }
 {
     match found {
-        Found::Broken => leaving(Answer::Refused(Refusal::BrokenRegister)),
-        Found::Held(_) => to_confirm(count, report),
-        Found::New(place) => to_add(place, count, report),
+        Found::Held(_) => leaving(report.map(|_motor| count)),
+        Found::Broken | Found::New(_) => to_file(found, count, report),
     }
 }
 
 // A motor with a reading: row 19, then what the frame reports. One that is held is renewed at its place.
-pub fn to_file(found: Found, count: usize, report: Report) -> Edit
+pub fn to_file(found: Found, count: usize, report: Result<Motor, Refusal>) -> Edit
     ensures { result ≡ to_file found count report }
 {
     match found {
-        Found::Broken => leaving(Answer::Refused(Refusal::BrokenRegister)),
-        Found::Held(place) => to_renew(place, count, report),
-        Found::New(place) => to_add(place, count, report),
+        Found::Broken => refused(Refusal::BrokenRegister),
+        Found::Held(place) => report.map_or_else(refused, |motor| renew(place, count, motor)),
+        Found::New(place) => report.map_or_else(refused, |motor| add(place, count, motor)),
     }
 }
 
@@ -45,42 +50,22 @@ pub fn to_strike(found: Found, count: usize, line: u8) -> Edit
     ensures { result ≡ to_strike found count line }
 {
     match found {
-        Found::Broken => leaving(Answer::Refused(Refusal::BrokenRegister)),
+        Found::Broken => refused(Refusal::BrokenRegister),
         Found::Held(place) => to_remove(place, count),
         Found::New(_) => to_miss(line),
     }
 }
 
-fn to_confirm(count: usize, report: Report) -> Edit
-    ensures { result ≡ to_confirm count report }
+// A reading takes the place of the last one.
+fn renew(at: usize, count: usize, motor: Motor) -> Edit
+    ensures { result ≡ to_renew at count (Ok motor) }
 {
-    match report {
-        Report::Seen(_) => leaving(Answer::Count(count)),
-        Report::Refused(refusal) => leaving(Answer::Refused(refusal)),
-    }
-}
-
-fn to_renew(place: usize, count: usize, report: Report) -> Edit
-    ensures { result ≡ to_renew place count report }
-{
-    match report {
-        Report::Seen(motor) => Edit {
-            up: true,
-            from: place,
-            last: place,
-            motor,
-            answer: Answer::Count(count),
-        },
-        Report::Refused(refusal) => leaving(Answer::Refused(refusal)),
-    }
-}
-
-fn to_add(place: usize, count: usize, report: Report) -> Edit
-    ensures { result ≡ to_add place count report }
-{
-    match report {
-        Report::Seen(motor) => add(place, count, motor),
-        Report::Refused(refusal) => leaving(Answer::Refused(refusal)),
+    Edit {
+        way: Way::Up,
+        from: at,
+        last: at,
+        motor,
+        answer: Ok(count),
     }
 }
 
@@ -90,14 +75,14 @@ fn add(place: usize, count: usize, motor: Motor) -> Edit
     ensures { result ≡ adding place count motor }
 {
     if count >= PLACES {
-        return leaving(Answer::Refused(Refusal::RegisterFull));
+        return refused(Refusal::RegisterFull);
     }
     Edit {
-        up: true,
+        way: Way::Up,
         from: place,
         last: count,
         motor,
-        answer: Answer::Count(count + 1),
+        answer: Ok(count + 1),
     }
 }
 
@@ -106,16 +91,16 @@ fn add(place: usize, count: usize, motor: Motor) -> Edit
 fn to_remove(place: usize, count: usize) -> Edit
     ensures { result ≡ to_remove place count }
 {
-    if count == 0 {
-        return leaving(Answer::Refused(Refusal::NotHeld));
-    }
+    let Some(others) = count.checked_sub(1) else {
+        return refused(Refusal::NotHeld);
+    };
     let motor = unread(0, 0);
     Edit {
-        up: false,
+        way: Way::Down,
         from: place,
-        last: count - 1,
+        last: others,
         motor,
-        answer: Answer::Count(count - 1),
+        answer: Ok(others),
     }
 }
 
@@ -124,19 +109,26 @@ fn to_remove(place: usize, count: usize) -> Edit
 fn to_miss(line: u8) -> Edit
     ensures { result ≡ to_miss line }
 {
-    if !is_line(line as u32) {
-        return leaving(Answer::Refused(Refusal::NoSuchLine));
+    if !is_line(u32::from(line)) {
+        return refused(Refusal::NoSuchLine);
     }
-    leaving(Answer::Refused(Refusal::NotHeld))
+    refused(Refusal::NotHeld)
+}
+
+fn refused(refusal: Refusal) -> Edit
+    ensures { result ≡ leaving (Err refusal) }
+{
+    leaving(Err(refusal))
 }
 
 // From place 1 to place 0 there is none.
-fn leaving(answer: Answer) -> Edit
+// Stays: a move that is none, in place of an Option of one: the definitions `leaving` and `applied` compute with these places.
+fn leaving(answer: Result<usize, Refusal>) -> Edit
     ensures { result ≡ leaving answer }
 {
     let motor = unread(0, 0);
     Edit {
-        up: true,
+        way: Way::Up,
         from: 1,
         last: 0,
         motor,

@@ -6,6 +6,7 @@ use crate::answer::PLACES;
 use crate::motor::{Motor, key, rest};
 use crate::passing::Passing;
 
+// Stays: neither an Option nor a Result, since a motor that is not held has a place too, and row 19 is a third case.
 #[derive(Clone, Copy)]
 pub enum Found {
     // Row 19: the run is no register.
@@ -21,32 +22,20 @@ pub enum Found {
 pub fn found_by(places: usize, count: usize, wanted: u64, passing: Passing, bits: u64) -> Found
     ensures { result ≡ found_by places count wanted passing bits }
 {
-    if !in_number(places, count) {
-        return Found::Broken;
+    if !in_number(places, count) || passing.next == 0 || bits != 0 {
+        Found::Broken
+    } else if passing.place == count || passing.there != wanted {
+        Found::New(passing.place)
+    } else {
+        Found::Held(passing.place)
     }
-    if passing.next == 0 {
-        return Found::Broken;
-    }
-    if bits != 0 {
-        return Found::Broken;
-    }
-    if passing.place == count {
-        return Found::New(count);
-    }
-    if passing.there != wanted {
-        return Found::New(passing.place);
-    }
-    Found::Held(passing.place)
 }
 
 // Row 19: 256 places, and at most 256 motors.
 fn in_number(places: usize, count: usize) -> bool
     ensures { result ≡ in_number places count }
 {
-    if places != PLACES {
-        return false;
-    }
-    count <= PLACES
+    places == PLACES && count <= PLACES
 }
 
 // The bits of one more place, beside those behind it: 0 where all are blank.

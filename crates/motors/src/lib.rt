@@ -8,9 +8,9 @@ mod motor;
 mod passing;
 mod report;
 
-pub use answer::{Answer, Next, PLACES};
-pub use edit::{Edit, to_enrol, to_file, to_strike};
+pub use answer::{Next, PLACES};
+pub use edit::{Edit, Way, to_enrol, to_file, to_strike};
 pub use found::{Found, found_by, gather};
 pub use motor::{Motor, follows, is_reading, key, unread};
 pub use passing::Passing;
-pub use report::{Report, read_report, shows_reading, subject};
+pub use report::{read_report, shows_reading, subject};

@@ -13,6 +13,7 @@ pub struct Motor {
     pub node: u32,
     pub line: u32,
     // 1 where a reading exists, else 0: then pulse, percent and IP are zeros.
+    // Stays: a mark beside its reading; the C interface lends this record of plain numbers, and row 19 judges any byte of it.
     pub mark: u32,
     pub pulse: u16,
     pub percent: u8,
@@ -24,8 +25,8 @@ pub fn unread(line: u8, node: u32) -> Motor
     ensures { result ≡ unread line node }
 {
     Motor {
-        node: node,
-        line: line as u32,
+        node,
+        line: u32::from(line),
         mark: 0,
         pulse: 0,
         percent: 0,
@@ -34,20 +35,22 @@ pub fn unread(line: u8, node: u32) -> Motor
 }
 
 // The order of motors as the order of one number: line, then NodeID.
+// Stays: no derived order; `past` and `found_by` compare by the definition `key_number`, and both fields load as one number (SPEED.md).
 pub fn key(motor: Motor) -> u64
     ensures { result ≡ key_number motor }
 {
-    motor.node as u64 + 4294967296 * (motor.line as u64)
+    u64::from(motor.node) + (u64::from(motor.line) << 32)
 }
 
 // The other fields as one number.
+// Stays: the definition `rest_number`, whose bits `gathered` joins; the four fields load as one number (SPEED.md).
 pub(crate) fn rest(motor: Motor) -> u64
     ensures { result ≡ rest_number motor }
 {
-    motor.mark as u64
-        + 4294967296 * (motor.pulse as u64)
-        + 281474976710656 * (motor.percent as u64)
-        + 72057594037927936 * (motor.ip as u64)
+    u64::from(motor.mark)
+        + (u64::from(motor.pulse) << 32)
+        + (u64::from(motor.percent) << 48)
+        + (u64::from(motor.ip) << 56)
 }
 
 // Row 20.
@@ -62,23 +65,17 @@ pub(crate) fn is_line(line: u32) -> bool
 pub(crate) fn is_node(node: u32) -> bool
     ensures { result ≡ is_node node }
 {
-    let address = Address(node);
-    address.is_node_id()
+    Address(node).is_node_id()
 }
 
 // Row 23: percent 0 to 100, IP 1 to 16 or FFh, which is next to 0 where a byte begins again.
-#[tactic(auto, using(crate::proofs::Numbers::no_reading, crate::proofs::Numbers::reading_right_lem), unfolding(crate::specs::Motor::is_reading))]
+#[tactic(auto, unfolding(crate::specs::Motor::is_reading))]
 pub fn is_reading(percent: u8, ip: u8) -> bool
     ensures { result ≡ is_reading percent ip }
 {
-    if percent > 100 {
-        return false;
-    }
-    let next = (ip as u16 + 1) % 256;
-    if next > 17 {
-        return false;
-    }
-    next != 1
+    // Stays: `0xFF | 1..=16` in place of the number behind it takes up to a quarter more time (forms read, filings).
+    let next = ip.wrapping_add(1);
+    percent <= 100 && next <= 17 && next != 1
 }
 
 // The mark with what it says of the other fields.
@@ -87,9 +84,10 @@ fn reading_right(motor: Motor) -> bool
     ensures { result ≡ reading_part motor }
 {
     if motor.mark == 1 {
-        return is_reading(motor.percent, motor.ip);
+        is_reading(motor.percent, motor.ip)
+    } else {
+        rest(motor) == 0
     }
-    rest(motor) == 0
 }
 
 // A held record's fields but for its line: rows 21, 23, and without a reading zeros.
@@ -97,10 +95,7 @@ fn reading_right(motor: Motor) -> bool
 pub(crate) fn right_beside_line(motor: Motor) -> bool
     ensures { result ≡ right_beside_line motor }
 {
-    if !is_node(motor.node) {
-        return false;
-    }
-    reading_right(motor)
+    is_node(motor.node) && reading_right(motor)
 }
 
 // A record that may stand behind another: row 20 too.
@@ -108,11 +103,5 @@ pub(crate) fn right_beside_line(motor: Motor) -> bool
 pub fn follows(previous: Motor, motor: Motor) -> bool
     ensures { result ≡ follows_of previous motor }
 {
-    if !is_line(motor.line) {
-        return false;
-    }
-    if !right_beside_line(motor) {
-        return false;
-    }
-    key(previous) < key(motor)
+    is_line(motor.line) && right_beside_line(motor) && key(previous) < key(motor)
 }

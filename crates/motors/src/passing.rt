@@ -7,14 +7,17 @@ use crate::motor::{Motor, key, right_beside_line};
 #[derive(Clone, Copy)]
 pub struct Passing {
     // The key of the record passed last, which the one before it has to be below; 0 once a record is not right.
+    // Stays: `next_by` and `found_by` of specs/ compute with 0, below which no key is, in place of an Option.
     pub next: u64,
     // The first place passed whose record is not before the motor looked for.
+    // Stays: place and there are the count and 0 where none was passed, by the definitions `begun`, `past` and `found_by`.
     pub place: usize,
     // The key of the record there.
     pub there: u64,
 }
 
 // No line is so high: the key of a motor on one of the lines is smaller.
+// Stays: a number that is no key, as the definition `begun` has it, in place of an Option.
 const BEHIND_ALL: u64 = 0x400000000;
 
 impl Passing {
@@ -37,16 +40,13 @@ impl Passing {
         let number = key(standing);
         let next = self.next_by(number, standing);
         if number < wanted {
-            return Passing {
+            Passing { next, ..self }
+        } else {
+            Passing {
                 next,
-                place: self.place,
-                there: self.there,
-            };
-        }
-        Passing {
-            next,
-            place: at,
-            there: number,
+                place: at,
+                there: number,
+            }
         }
     }
 
@@ -54,12 +54,10 @@ impl Passing {
     fn next_by(self, number: u64, standing: Motor) -> u64
         ensures { result ≡ next_by self number standing }
     {
-        if number >= self.next {
-            return 0;
+        if number < self.next && right_beside_line(standing) {
+            number
+        } else {
+            0
         }
-        if !right_beside_line(standing) {
-            return 0;
-        }
-        number
     }
 }

@@ -1,7 +1,7 @@
 -- Whatever is answered is a frame to the asker; whatever is not answered has no reply.
 -- Assumes nothing.
 use Prim.Native.Nat.{ℕ, ◌≤◌, ◌<◌}
-use mathlib.Core.Path.{refl}
+use mathlib.Core.Path.{◌≡◌, refl, subst}
 use mathlib.Core.List.{List}
 use lib.ListN.{length}
 use Rattle.meaning.specs.Bytes.{Bytes}
@@ -9,28 +9,28 @@ use Rattle.meaning.specs.Cases.{zero_is_one}
 use Rattle.meaning.specs.Choice.{either}
 use Rattle.refusal.specs.declared.Refusal.{Refusal}
 use Rattle.frame.specs.declared.header.Header.{Header}
-use Rattle.board.specs.declared.groups.Change.{Change}
 use Rattle.board.specs.declared.settings.Settings.{Settings}
 use Rattle.board.specs.declared.whole.Node.{Node}
 use Rattle.messages.specs.Outcome.{content_of}
 use Rattle.messages.specs.declared.outcome.Outcome.{Outcome}
 use Rattle.node.specs.Turn.{silent, replied, refused_by}
-use Rattle.node.specs.Replies.{is_said, message_of, reply_to, answered, Proper}
+use Rattle.node.specs.Replies.{is_said, message_of, reply_header, reply_to, answered, IsReplyWith, Proper}
 use Rattle.node.proofs.Replied.{Answerable, a_reply_is_a_frame}
+use Rattle.board.specs.Groups.{Change}
 
 module _ (s : Settings) (h : Header) where
   pub silence_is_proper : (n : Node) (change : Change) → Proper s h (silent n change)
   silence_is_proper n change =
       record {
-        a_frame_to_the_asker = λ e. absurd (zero_is_one (cc));
+        a_frame_to_the_asker = λ r e. absurd (zero_is_one (cc));
         no_reply_in_silence = λ e. refl;
-        no_reply_when_refused = λ r e. refl;
+        no_reply_when_refused = λ q e. refl;
       }
 
   pub refusal_is_proper : (n : Node) (r : Refusal) → Proper s h (refused_by n r)
   refusal_is_proper n r =
       record {
-        a_frame_to_the_asker = λ e. absurd (zero_is_one (cc));
+        a_frame_to_the_asker = λ r e. absurd (zero_is_one (cc));
         no_reply_in_silence = λ e. refl;
         no_reply_when_refused = λ q e. refl;
       }
@@ -39,7 +39,9 @@ module _ (s : Settings) (h : Header) where
       → Proper s h (replied n change (reply_to s h message content))
   reply_is_proper n change message content a =
       record {
-        a_frame_to_the_asker = λ e. (message, content, a_reply_is_a_frame s h message content a);
+        a_frame_to_the_asker = λ r e.
+            let it : reply_to s h message content ≡ r = cc in
+            (message, content, subst (IsReplyWith (reply_header s h message) content) it (a_reply_is_a_frame s h message content a));
         no_reply_in_silence = λ e. absurd (zero_is_one (cc));
         no_reply_when_refused = λ r e. absurd (zero_is_one (cc));
       }

@@ -15,12 +15,10 @@ use Rattle.frame.specs.Layout.{message, source, header_of, data_of, data_count}
 use Rattle.frame.specs.Reading.{IsFrame}
 use Rattle.frame.specs.declared.header.Header.{Header}
 use Rattle.frame.proofs.Frames.{frame_is_read}
-use Rattle.board.specs.Groups.{Groups}
+use Rattle.board.specs.Groups.{Groups, Change, put}
 use Rattle.board.specs.Node.{sound}
 use Rattle.board.specs.Settings.{in_range}
 use Rattle.board.specs.Typed.{Typed, TypedTable}
-use Rattle.board.specs.declared.groups.Change.{Change}
-use Rattle.board.specs.declared.groups.Change.TheVariants.{Keep, Put}
 use Rattle.board.specs.declared.settings.Settings.{Settings}
 use Rattle.board.specs.declared.whole.Node.{Node}
 use Rattle.board.proofs.Sound.{settings_facts, parts_of}
@@ -35,12 +33,12 @@ use Rattle.node.specs.Meant.{meant, replies, Meant}
 use Rattle.node.specs.Turn.{silent, refused_by}
 use Rattle.node.specs.Replies.{is_said, message_of, answered, Unchanged, Untouched, Proper}
 use Rattle.node.specs.Frames.{turn_of}
-use Rattle.node.specs.declared.turn.Answer.TheVariants.{Refused}
 use Rattle.node.specs.declared.turn.Turn.{Turn}
 use Rattle.node.proofs.Passing.{the_four_conditions, meant_by_the_four}
 use Rattle.node.proofs.Turns.{by_row_33, by_reading, carried_out, passed_over}
 use Rattle.node.proofs.Bundles.{came_to, every_turn}
 use Rattle.node.proofs.Answered.{Introduced, Sayable, silence_is_proper, refusal_is_proper, every_answer_is_proper}
+use Rattle.std.specs.Prelude.{Some, None, Err}
 
 -- A frame meant for a sound node is carried out by the message table; any other is met with silence and no change.
 module _ (n : Node) (g : Groups) (b : List ℕ) (s : sound n ≡ true) (f : IsFrame b) where
@@ -58,7 +56,7 @@ module _ (n : Node) (g : Groups) (b : List ℕ) (s : sound n ≡ true) (f : IsFr
       by true k = absurd (k refl)
       by false k = refl
 
-  pub not_meant_is_silent : ¬ Meant n.settings g request → turn_of n g b ≡ silent n Keep
+  pub not_meant_is_silent : ¬ Meant n.settings g request → turn_of n g b ≡ silent n None
   not_meant_is_silent k = by_reading n g b s ∙ passed_over n g b request (data_count b) (frame_is_read b f) (not_meant k)
 
   -- An accepted SET or CTRL without the ACK bit is silent.
@@ -78,8 +76,8 @@ module _ (n : Node) (g : Groups) (b : List ℕ) where
   pub a_reply_message_is_never_answered : IsOneOf (message b) replies → Untouched n (turn_of n g b)
   a_reply_message_is_never_answered i =
       every_turn n g b (Untouched n)
-      (λ q. record { unchanged = record { node_kept = refl; table_kept = refl }; not_answered = λ e. zero_is_one (cc); nothing_said = refl })
-      (record { unchanged = record { node_kept = refl; table_kept = refl }; not_answered = λ e. zero_is_one (cc); nothing_said = refl })
+      (λ q. record { unchanged = record { node_kept = refl; table_kept = refl }; not_answered = λ r e. zero_is_one (cc); nothing_said = refl })
+      (record { unchanged = record { node_kept = refl; table_kept = refl }; not_answered = λ r e. zero_is_one (cc); nothing_said = refl })
       (λ s f m. absurd ((the_four_conditions n.settings g (header_of b) m).no_reply_lem i))
 
   -- A 7Fh is not answered with a 7Fh, so that two nodes never chatter.
@@ -102,13 +100,13 @@ module _ (n : Node) (g : Groups) (b : List ℕ) where
 
   -- A refusal by a number returns the node, keeps the table and gives no reply.
   abbrev Harmless : Turn → Type 0
-  Harmless t = (r : Refusal) → t.answer ≡ Refused r → t ≡ refused_by n r
+  Harmless t = (r : Refusal) → t.answer ≡ Err r → t ≡ refused_by n r
 
   answered_is_not_refused : (h : Header) (o : Outcome) → Harmless (answered n.settings h o)
   answered_is_not_refused h o =
       either Harmless (is_said o.say h.ack) (λ e r k. absurd (zero_is_one (cc))) (λ e r k. absurd (zero_is_one (cc)))
 
-  pub refused_by_a_number_changes_nothing : (r : Refusal) → (turn_of n g b).answer ≡ Refused r → turn_of n g b ≡ refused_by n r
+  pub refused_by_a_number_changes_nothing : (r : Refusal) → (turn_of n g b).answer ≡ Err r → turn_of n g b ≡ refused_by n r
   refused_by_a_number_changes_nothing =
       every_turn n g b Harmless
       (λ q r k. cc)
@@ -195,12 +193,12 @@ module _ (n : Node) (g : Groups) (b : List ℕ) (s : sound n ≡ true) where
   every_reply_is_a_frame_to_the_asker t u =
       every_turn n g b (Proper n.settings (header_of b))
       (λ q. refusal_is_proper n.settings (header_of b) n q)
-      (silence_is_proper n.settings (header_of b) n Keep)
+      (silence_is_proper n.settings (header_of b) n None)
       (λ e f m. every_answer_is_proper n.settings (header_of b) introduced (came_to n g b) (sayable t u))
 
 -- An entry that a turn puts is one of the sixteen; a node that is not sound puts none.
 pub an_entry_put_is_one_of_the_sixteen : (n : Node) (g : Groups) (b : List ℕ) (index low middle high : ℕ)
-    → (turn_of n g b).change ≡ Put index low middle high → index ≤ 15
+    → (turn_of n g b).change ≡ Some (put index low middle high) → index ≤ 15
 an_entry_put_is_one_of_the_sixteen n g b index low middle high e =
     subst InTable e
     (by_test (sound n)

@@ -1,4 +1,3 @@
-pub mod Addressing
 pub mod Turns
 pub mod Bundles
 pub mod Passing

@@ -1,7 +1,7 @@
 -- The board with its group table, and its history: bundles from the line and events of the motor and the supply, one
 -- after another.
 -- Assumes nothing.
-use Rattle.std.specs.Prelude.{ℕ, List, [], ◌∷◌, ◌++◌, take}
+use Rattle.std.specs.Prelude.{ℕ, List, [], ◌∷◌, ◌++◌, take, Some, None, Ok, Err}
 use Rattle.travel.specs.declared.Pulse.{Pulse}
 use Rattle.board.specs.Events.{after_pulse, after_blocked, after_cleared, after_power_up}
 use Rattle.board.specs.Groups.{Groups, no_groups, applied}
@@ -10,9 +10,7 @@ use Rattle.board.specs.Typed.{Typed, TypedTable}
 use Rattle.board.specs.declared.settings.Settings.{Settings}
 use Rattle.board.specs.declared.whole.Node.{Node}
 use Rattle.node.specs.Frames.{turn_of}
-use Rattle.node.specs.declared.turn.Answer.{Answer}
-use Rattle.node.specs.declared.turn.Answer.TheVariants.{Silent, Replied, Refused}
-use Rattle.node.specs.declared.turn.Reply.{Reply}
+use Rattle.node.specs.Turn.{Answer}
 use Rattle.node.specs.declared.turn.Turn.{Turn}
 
 -- The node and, beside it, its group table.
@@ -31,10 +29,9 @@ begun s = state (fresh s) no_groups
 pub record Heard : Type 0 where
   pub left : State
   pub answer : Answer
-  pub reply : Reply
 
 abbrev pub heard_by : Groups → Turn → Heard
-heard_by groups t = record { left = state t.node (applied groups t.change); answer = t.answer; reply = t.reply }
+heard_by groups t = record { left = state t.node (applied groups t.change); answer = t.answer }
 
 abbrev pub heard : State → List ℕ → Heard
 heard w b = heard_by w.groups (turn_of w.node w.groups b)
@@ -56,13 +53,13 @@ after w cleared = state (after_cleared w.node).node w.groups
 after w power_up = state (after_power_up w.node).node w.groups
 
 -- The replies to it: one, by its wire bytes, or none.
-abbrev pub spoken : Answer → Reply → List (List ℕ)
-spoken Silent r = []
-spoken Replied r = take r.count r.bytes ∷ []
-spoken (Refused q) r = []
+abbrev pub spoken : Answer → List (List ℕ)
+spoken (Ok None) = []
+spoken (Ok (Some r)) = take r.count r.bytes ∷ []
+spoken (Err q) = []
 
 abbrev pub said : State → Input → List (List ℕ)
-said w (bundle b) = spoken (heard w b).answer (heard w b).reply
+said w (bundle b) = spoken (heard w b).answer
 said w (pulse p) = []
 said w (blocked cause) = []
 said w cleared = []

@@ -1,22 +1,18 @@
 -- How a message is answered (document 01, under the message table).
 -- Assumes nothing.
-use Rattle.std.specs.Prelude.{if◌then◌else◌, ℕ, ◌+◌, ◌-◌, ◌≡◌, ◌≢◌, Bool, true, false, List, length, take, drop, replicate}
+use Rattle.std.specs.Prelude.{if◌then◌else◌, ℕ, ◌+◌, ◌-◌, ◌≡◌, ◌≢◌, Bool, true, false, List, length, take, drop, replicate, Ok, Err, Some, None}
 use Rattle.refusal.specs.declared.Refusal.{Refusal}
 use Rattle.frame.specs.Layout.{header_of, data_of}
 use Rattle.frame.specs.Reading.{IsFrame}
-use Rattle.frame.specs.Writing.{writing_of, buffer_after}
+use Rattle.frame.specs.Writing.{writing_of, buffer_after, Writing}
 use Rattle.frame.specs.declared.header.Header.{Header}
-use Rattle.frame.specs.declared.writing.Writing.{Writing}
-use Rattle.frame.specs.declared.writing.Writing.TheVariants.{Next, Refused}
-use Rattle.board.specs.declared.groups.Change.TheVariants.{Keep}
 use Rattle.board.specs.declared.settings.Settings.{Settings}
 use Rattle.board.specs.declared.whole.Node.{Node}
 use Rattle.messages.specs.Outcome.{content_of}
 use Rattle.messages.specs.declared.outcome.Outcome.{Outcome}
 use Rattle.messages.specs.declared.outcome.Say.{Say}
 use Rattle.messages.specs.declared.outcome.Say.TheVariants.{Done, Post, Refuse}
-use Rattle.node.specs.Turn.{reply, no_reply, silent, replied}
-use Rattle.node.specs.declared.turn.Answer.TheVariants as answer
+use Rattle.node.specs.Turn.{reply, no_reply, reply_in, silent, replied}
 use Rattle.node.specs.declared.turn.Reply.{Reply}
 use Rattle.node.specs.declared.turn.Turn.{Turn}
 
@@ -50,8 +46,8 @@ say_header s h o = reply_header s h (message_of o.say)
 
 -- The place after a frame written at the start is its length.
 abbrev pub length_of : Writing → ℕ
-length_of (Next place) = place
-length_of (Refused r) = 0
+length_of (Ok place) = place
+length_of (Err r) = 0
 
 -- The reply is what the frame writer makes of 31 zeros.
 unfoldable pub reply_to : Settings → Header → (message : ℕ) → (content : List ℕ) → Reply
@@ -75,18 +71,18 @@ pub record IsReplyWith (header : Header) (content : List ℕ) (r : Reply) : Type
 
 -- A turn's reply, if there is one, is a frame from this node to the asker; if there is none, all is zero.
 pub record Proper (s : Settings) (h : Header) (t : Turn) : Type 0 where
-  pub a_frame_to_the_asker : t.answer ≡ answer.Replied
-      → (message : ℕ) × (content : List ℕ) × IsReplyWith (reply_header s h message) content t.reply
-  pub no_reply_in_silence : t.answer ≡ answer.Silent → t.reply ≡ no_reply
-  pub no_reply_when_refused : (r : Refusal) → t.answer ≡ answer.Refused r → t.reply ≡ no_reply
+  pub a_frame_to_the_asker : (r : Reply) → t.answer ≡ Ok (Some r)
+      → (message : ℕ) × (content : List ℕ) × IsReplyWith (reply_header s h message) content r
+  pub no_reply_in_silence : t.answer ≡ Ok None → reply_in t ≡ no_reply
+  pub no_reply_when_refused : (r : Refusal) → t.answer ≡ Err r → reply_in t ≡ no_reply
 
 -- Neither the node nor the group table is changed.
 pub record Unchanged (n : Node) (t : Turn) : Type 0 where
   pub node_kept : t.node ≡ n
-  pub table_kept : t.change ≡ Keep
+  pub table_kept : t.change ≡ None
 
 -- Neither node nor table is changed, and nothing is said.
 pub record Untouched (n : Node) (t : Turn) : Type 0 where
   pub unchanged : Unchanged n t
-  pub not_answered : t.answer ≢ answer.Replied
-  pub nothing_said : t.reply ≡ no_reply
+  pub not_answered : (r : Reply) → t.answer ≢ Ok (Some r)
+  pub nothing_said : reply_in t ≡ no_reply

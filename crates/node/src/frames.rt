@@ -6,12 +6,12 @@ ghost use Rattle.node.specs.Frames.{turn_by, turn_of};
 use crate::meant::is_meant;
 use crate::reply::answered;
 use crate::turn::{Turn, refused, silent};
-use board::{Change, Node};
-use frame::Reading;
+use board::Node;
 use messages::outcome_of;
 use refusal::Refusal;
 
 // Row 33, then the bundle.
+#[tactic(auto, unfolding(crate::specs::Frames::turn_of))]
 pub fn on_frame(node: Node, groups: [[u8; 3]; 16], bundle: &[u8]) -> Turn
     ensures { result ≡ turn_of node groups bundle.now }
 {
@@ -22,20 +22,17 @@ pub fn on_frame(node: Node, groups: [[u8; 3]; 16], bundle: &[u8]) -> Turn
 }
 
 // Rows 1 to 6, then the message, if it is meant for this node.
+#[tactic(auto, using(messages::proofs::Contents::at_most_20_bytes))]
 fn taken(node: Node, groups: [[u8; 3]; 16], bundle: &[u8]) -> Turn
     ensures { result ≡ turn_by node groups bundle.now (reading_of bundle.now) }
 {
-    let reading = frame::read(bundle);
-    match reading {
-        Reading::Refused(refusal) => refused(node, refusal),
-        Reading::Frame(request, _) => {
-            let settings = node.settings;
-            if !is_meant(settings, groups, request) {
-                return silent(node, Change::Keep);
-            }
-            let source = request.source;
-            let outcome = outcome_of(node, groups, source, request.message, bundle);
-            answered(settings, request, outcome)
-        }
+    let request = match frame::read(bundle) {
+        Ok((request, _)) => request,
+        Err(refusal) => return refused(node, refusal),
+    };
+    if !is_meant(node.settings, groups, request) {
+        return silent(node, None);
     }
+    let outcome = outcome_of(node, groups, request.source, request.message, bundle);
+    answered(node.settings, request, outcome)
 }

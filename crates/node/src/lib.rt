@@ -7,4 +7,4 @@ mod reply;
 mod turn;
 
 pub use frames::on_frame;
-pub use turn::{Answer, Reply, Turn};
+pub use turn::{Reply, Turn};

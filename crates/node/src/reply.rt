@@ -4,27 +4,27 @@ ghost use Rattle.frame.specs.Writing.{writing_of, buffer_after};
 ghost use Rattle.messages.specs.Outcome.{content_of};
 ghost use Rattle.node.specs.Replies.{is_said, message_of, reply_header, say_header, answered};
 
-use crate::turn::{Reply, Turn, replied, silent};
+use crate::turn::{Reply, Turn, silent};
 use board::Settings;
-use frame::{Header, Writing};
+use frame::Header;
 use messages::{Outcome, Say};
+use refusal::Refusal;
 
 // The turn that an outcome leads to: a reply of 31 bytes of its own, where one is said.
 pub(crate) fn answered(settings: Settings, request: Header, outcome: Outcome) -> Turn
     requires { outcome.count ≤ 20 }
     ensures { result ≡ answered settings request outcome }
 {
-    let after = outcome.node;
-    let change = outcome.change;
-    let say = outcome.say;
-    if !is_said(say, request.ack) {
-        return silent(after, change);
+    if !is_said(outcome.say, request.ack) {
+        return silent(outcome.node, outcome.change);
     }
     let mut bytes = [0u8; 31];
-    let writing = write_reply(&mut bytes, 0, settings, request, outcome);
-    match writing {
-        Writing::Next(count) => replied(after, change, Reply { count, bytes }),
-        Writing::Refused(_) => replied(after, change, Reply { count: 0, bytes }),
+    // Stays: `answered` counts no byte where the writer refuses (`length_of`), which it never does here.
+    let count = write_reply(&mut bytes, 0, settings, request, outcome).unwrap_or(0);
+    Turn {
+        node: outcome.node,
+        change: outcome.change,
+        answer: Ok(Some(Reply { count, bytes })),
     }
 }
 
@@ -35,16 +35,14 @@ fn write_reply(
     settings: Settings,
     request: Header,
     outcome: Outcome,
-) -> Writing
+) -> Result<usize, Refusal>
     requires { outcome.count ≤ 20 }
     ensures value { result ≡ writing_of (length buffer.old) place (say_header settings request outcome) (content_of outcome) }
     ensures buffer_after { buffer.new ≡ buffer_after buffer.old place (say_header settings request outcome) (content_of outcome) }
 {
-    let say = outcome.say;
-    let header = reply_header(settings, request, message_of(say));
-    let count = outcome.count;
+    let header = reply_header(settings, request, message_of(outcome.say));
     let content = outcome.content;
-    frame::write(buffer, place, header, &content[..count])
+    frame::write(buffer, place, header, &content[..outcome.count])
 }
 
 // A POST is said whatever the ACK bit; all else only where it is asked for.
@@ -52,9 +50,8 @@ fn is_said(say: Say, ack: bool) -> bool
     ensures { result ≡ is_said say ack }
 {
     match say {
-        Say::Done => ack,
         Say::Post(_) => true,
-        Say::Refuse(_) => ack,
+        Say::Done | Say::Refuse(_) => ack,
     }
 }
 
@@ -72,14 +69,12 @@ fn message_of(say: Say) -> u8
 fn reply_header(settings: Settings, request: Header, message: u8) -> Header
     ensures { result ≡ reply_header settings request message }
 {
-    let id = settings.id;
-    let source = request.source;
     Header {
         message,
         ack: false,
         sender: settings.kind,
         receiver: request.sender,
-        source: id,
-        destination: source,
+        source: settings.id,
+        destination: request.source,
     }
 }

@@ -1,20 +1,14 @@
 // One bundle's turn: the node afterwards, what becomes of its group table, and the answer.
 ghost use Rattle.std.specs.Prelude.{◌≡◌};
-ghost use Rattle.node.specs.Turn.{no_reply, silent, replied, refused_by};
+ghost use Rattle.node.specs.Turn.{no_reply, silent, refused_by};
 
-use board::{Change, Node};
+use board::{Node, Put};
 use refusal::Refusal;
-
-#[derive(Clone, Copy)]
-pub enum Answer {
-    Silent,
-    Replied,
-    Refused(Refusal),
-}
 
 // The reply's wire bytes, then zeros.
 #[derive(Clone, Copy)]
 pub struct Reply {
+    // Stays: a length beside its buffer, since the memory is fixed and no reply is longer.
     pub count: usize,
     pub bytes: [u8; 31],
 }
@@ -22,12 +16,14 @@ pub struct Reply {
 #[derive(Clone, Copy)]
 pub struct Turn {
     pub node: Node,
-    pub change: Change,
-    pub answer: Answer,
-    pub reply: Reply,
+    // What is put into the group table.
+    pub change: Option<Put>,
+    // A reply, or silence.
+    pub answer: Result<Option<Reply>, Refusal>,
 }
 
 impl Reply {
+    // Stays: public, and `reply_none_is` of the promises speaks of it.
     pub fn none() -> Reply
         ensures { result ≡ no_reply }
     {
@@ -38,26 +34,13 @@ impl Reply {
     }
 }
 
-pub(crate) fn silent(node: Node, change: Change) -> Turn
+pub(crate) fn silent(node: Node, change: Option<Put>) -> Turn
     ensures { result ≡ silent node change }
 {
-    let reply = Reply::none();
     Turn {
         node,
         change,
-        answer: Answer::Silent,
-        reply,
-    }
-}
-
-pub(crate) fn replied(node: Node, change: Change, reply: Reply) -> Turn
-    ensures { result ≡ replied node change reply }
-{
-    Turn {
-        node,
-        change,
-        answer: Answer::Replied,
-        reply,
+        answer: Ok(None),
     }
 }
 
@@ -65,11 +48,9 @@ pub(crate) fn replied(node: Node, change: Change, reply: Reply) -> Turn
 pub(crate) fn refused(node: Node, refusal: Refusal) -> Turn
     ensures { result ≡ refused_by node refusal }
 {
-    let reply = Reply::none();
     Turn {
         node,
-        change: Change::Keep,
-        answer: Answer::Refused(refusal),
-        reply,
+        change: None,
+        answer: Err(refusal),
     }
 }

@@ -10,8 +10,6 @@ use Rattle.meaning.specs.Bytes.{Bytes}
 use Rattle.serial.specs.Serial.{serial_of}
 use Rattle.frame.specs.Layout.{message, source, data_of}
 use Rattle.board.specs.Groups.{Groups}
-use Rattle.board.specs.declared.favourites.Ip.{Ip}
-use Rattle.board.specs.declared.favourites.Ip.TheVariants.{Unset, At}
 use Rattle.board.specs.declared.whole.Node.{Node}
 use Rattle.messages.specs.Fields.{byte_at, bit}
 use Rattle.messages.specs.Outcome.{content_of, posts}
@@ -19,9 +17,9 @@ use Rattle.messages.specs.Motor.{position_row, position_data, status_row, status
 use Rattle.messages.specs.Ips.{percent_or}
 use Rattle.messages.specs.Locking.{lock_row, lock_data}
 use Rattle.messages.specs.Addresses.{address_row}
-use Rattle.messages.specs.Identity.{first_of, label_row, version_of, version_row, serial_data, serial_row}
+use Rattle.messages.specs.Identity.{label_row, version_of, version_row, serial_row}
 use Rattle.messages.proofs.Messages.{at_row}
-use Rattle.messages.proofs.FirstBytes.{so_many, the_whole}
+use Rattle.messages.proofs.FirstBytes.{the_whole}
 use Rattle.messages.proofs.Contents.{content_is, all_bytes}
 use Rattle.node.specs.Frames.{turn_of}
 use Rattle.promises.specs.Typed.{Typed, TypedTable}
@@ -36,6 +34,8 @@ use Rattle.promises.proofs.Serials.{serials}
 use Rattle.promises.proofs.Typed.{for_its_laws}
 use Rattle.promises.proofs.Turns.{came_to, posted}
 use Rattle.promises.proofs.Codes.{ip_at_is, accepted_index, ip_by, group_by}
+use Rattle.board.specs.Favourites.{Ip}
+use Rattle.std.specs.Prelude.{Some, None}
 
 bit_is : (flag : Bool) → bit flag ≡ one_if flag
 bit_is true = refl
@@ -133,8 +133,8 @@ module _ (n : Node) (g : Groups) (b : List ℕ) (a : Arrives n g b) (t : Typed n
       record {
         position_is_told = position_told_lem;
         status_is_told = status_told;
-        an_ip_is_told = λ m none p. ip_told m none (At p);
-        an_unset_ip_is_told_as_ffh = λ m none. ip_told m none Unset;
+        an_ip_is_told = λ m none p. ip_told m none (Some p);
+        an_unset_ip_is_told_as_ffh = λ m none. ip_told m none None;
         the_lock_is_told = λ m. rw (bit_is n.lock.locked, bit_is n.lock.saved) at (lock_told m);
         the_address_is_told = address_told;
         a_group_is_told = group_told;

@@ -11,21 +11,16 @@ use lib.ListN.{get_or}
 use Rattle.meaning.specs.Cases.{both, and_so}
 use Rattle.travel.specs.declared.Pulse.{Pulse}
 use Rattle.board.specs.Settings.{in_range}
-use Rattle.board.specs.Drive.{motion_within}
-use Rattle.board.specs.Favourites.{ip_within, ips_within}
+use Rattle.board.specs.Drive.{motion_within, Motion}
+use Rattle.board.specs.Favourites.{ip_within, ips_within, Ip}
 use Rattle.board.specs.Node.{sound}
-use Rattle.board.specs.declared.drive.Motion.{Motion}
-use Rattle.board.specs.declared.drive.Motion.TheVariants.{Still, Running}
-use Rattle.board.specs.declared.favourites.Ip.{Ip}
-use Rattle.board.specs.declared.favourites.Ip.TheVariants.{Unset, At}
-use Rattle.board.specs.declared.favourites.Slot.{Slot}
 use Rattle.board.specs.declared.settings.Settings.{Settings}
 use Rattle.board.specs.declared.whole.Node.{Node}
 use Rattle.board.proofs.Sound.{settings_facts, plate_facts, parts_of, sound_of_lem}
-use Rattle.promises.specs.BoardParts.{slot}
 use Rattle.promises.specs.BoardInRange.{SettingsInRange, BoardInRange}
 use Rattle.promises.proofs.Labels.{characters_are, characters_so}
 use Rattle.promises.proofs.Serials.{serials}
+use Rattle.std.specs.Prelude.{Some, None}
 
 module _ (s : Settings) where
   settings_are : in_range s ≡ true → SettingsInRange s
@@ -62,31 +57,31 @@ module _ (s : Settings) where
   settings_exactly_when = (settings_so, settings_are)
 
 module _ (travel : Pulse) where
-  target_is : (m : Motion) → motion_within travel m ≡ true → (target : Pulse) → m ≡ Running target → target.0 ≤ travel.0
+  target_is : (m : Motion) → motion_within travel m ≡ true → (target : Pulse) → m ≡ Some target → target.0 ≤ travel.0
   target_is m w target e = leb-true target.0 travel.0 (rw e at w)
 
-  target_so : (m : Motion) → ((target : Pulse) → m ≡ Running target → target.0 ≤ travel.0) → motion_within travel m ≡ true
-  target_so Still h = refl
-  target_so (Running target) h = le-leb target.0 travel.0 (h target refl)
+  target_so : (m : Motion) → ((target : Pulse) → m ≡ Some target → target.0 ≤ travel.0) → motion_within travel m ≡ true
+  target_so None h = refl
+  target_so (Some target) h = le-leb target.0 travel.0 (h target refl)
 
-  ip_so : (x : Ip) → ((p : Pulse) → x ≡ At p → p.0 ≤ travel.0) → ip_within travel x ≡ true
-  ip_so Unset h = refl
-  ip_so (At p) h = le-leb p.0 travel.0 (h p refl)
+  ip_so : (x : Ip) → ((p : Pulse) → x ≡ Some p → p.0 ≤ travel.0) → ip_within travel x ≡ true
+  ip_so None h = refl
+  ip_so (Some p) h = le-leb p.0 travel.0 (h p refl)
 
-  ip_is : (x : Ip) → ip_within travel x ≡ true → (p : Pulse) → x ≡ At p → p.0 ≤ travel.0
+  ip_is : (x : Ip) → ip_within travel x ≡ true → (p : Pulse) → x ≡ Some p → p.0 ≤ travel.0
   ip_is x w p e = leb-true p.0 travel.0 (rw e at w)
 
-  ips_are : (l : List Slot) → ips_within travel l ≡ true → (place : ℕ) (p : Pulse) → (get_or l place (slot Unset)).ip ≡ At p → p.0 ≤ travel.0
+  ips_are : (l : List Ip) → ips_within travel l ≡ true → (place : ℕ) (p : Pulse) → get_or l place None ≡ Some p → p.0 ≤ travel.0
   unfolding ips_within
-  ips_are [] w place p e = ip_is Unset refl p e
-  ips_are (s ∷ l) w zero p e = ip_is s.ip (both (ip_within travel s.ip) (ips_within travel l) w).0 p e
-  ips_are (s ∷ l) w (suc place) p e = ips_are l (both (ip_within travel s.ip) (ips_within travel l) w).1 place p e
+  ips_are [] w place p e = ip_is None refl p e
+  ips_are (s ∷ l) w zero p e = ip_is s (both (ip_within travel s) (ips_within travel l) w).0 p e
+  ips_are (s ∷ l) w (suc place) p e = ips_are l (both (ip_within travel s) (ips_within travel l) w).1 place p e
 
-  ips_so : (l : List Slot) → ((place : ℕ) (p : Pulse) → (get_or l place (slot Unset)).ip ≡ At p → p.0 ≤ travel.0) → ips_within travel l ≡ true
+  ips_so : (l : List Ip) → ((place : ℕ) (p : Pulse) → get_or l place None ≡ Some p → p.0 ≤ travel.0) → ips_within travel l ≡ true
   unfolding ips_within
   ips_so [] h = refl
   ips_so (s ∷ l) h =
-      and_so (ip_within travel s.ip) (ips_within travel l) (ip_so s.ip (h 0)) (ips_so l (λ place. h (suc place)))
+      and_so (ip_within travel s) (ips_within travel l) (ip_so s (h 0)) (ips_so l (λ place. h (suc place)))
 
 module _ (n : Node) where
   abbrev travel : Pulse

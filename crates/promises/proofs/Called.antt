@@ -9,10 +9,7 @@ use mathlib.Core.Bool.{true, false≢true}
 use mathlib.Core.List.{List, [], ◌∷◌}
 use lib.ListN.{length}
 use Rattle.travel.specs.declared.Pulse.{Pulse}
-use Rattle.board.specs.Favourites.{is_set}
-use Rattle.board.specs.declared.favourites.Ip.{Ip}
-use Rattle.board.specs.declared.favourites.Ip.TheVariants.{Unset, At}
-use Rattle.board.specs.declared.groups.Change.TheVariants.{Keep}
+use Rattle.board.specs.Favourites.{is_set, Ip}
 use Rattle.board.specs.declared.whole.Node.{Node}
 use Rattle.node.specs.Frames.{turn_of}
 use Rattle.promises.specs.Groups.{Groups}
@@ -21,7 +18,7 @@ use Rattle.promises.specs.BoardParts.{ip_of}
 use Rattle.promises.specs.Rows.{◌when◌, FirstOf, applies, passes, none_applies}
 use Rattle.promises.specs.Demand2.Codes.{IsAMove, Accepted, move_rows, set_ip_rows}
 use Rattle.promises.specs.Demand2.Turns.{CarriedOut, RefusedBy}
-use Rattle.promises.specs.Demand2.Effects.{Arrives, to_ip_lem, OneIp, SharedOut}
+use Rattle.promises.specs.Demand2.Effects.{Arrives, to_ip_lem, OneIp}
 use Rattle.promises.specs.Demand2.Called.{
   Stores,
   here,
@@ -38,6 +35,7 @@ use Rattle.promises.specs.Demand2.Called.{
 use Rattle.promises.proofs.First.{one_number}
 use Rattle.promises.proofs.Codes.{codes}
 use Rattle.promises.proofs.Effects.{names_an_ip, names_a_count, accepted_order, effects}
+use Rattle.std.specs.Prelude.{Some, None}
 
 -- ---- the call
 module _ (n : Node) (g : Groups) (b : List ℕ) (number : ℕ) (least : 1 ≤ number) (most : number ≤ 16) (c : Calls n g b number) where
@@ -45,7 +43,7 @@ module _ (n : Node) (g : Groups) (b : List ℕ) (number : ℕ) (least : 1 ≤ nu
   d = data_of b
 
   abbrev Lacks : Type 0
-  Lacks = (byte_at d 0 ≡ 2) × (ip_of n.favourites (word_at d 1) ≡ Unset)
+  Lacks = (byte_at d 0 ≡ 2) × (ip_of n.favourites (word_at d 1) ≡ None)
 
   under_it : {x : Ip} → ip_of n.favourites number ≡ x → ip_of n.favourites (word_at d 1) ≡ x
   under_it e = ap (ip_of n.favourites) c.by_the_number ∙ e
@@ -62,7 +60,7 @@ module _ (n : Node) (g : Groups) (b : List ℕ) (number : ℕ) (least : 1 ≤ nu
       (passes (λ (locked : n.lock.locked ≡ true). false≢true (sym c.is_unlocked ∙ locked))
       (passes (λ (blocked : n.drive.blocked ≡ true). false≢true (sym c.is_not_blocked ∙ blocked)) last)))
 
-  goes_to : (p : Pulse) → ip_of n.favourites number ≡ At p → GoesTo n b (turn_of n g b) p
+  goes_to : (p : Pulse) → ip_of n.favourites number ≡ Some p → GoesTo n b (turn_of n g b) p
   goes_to p set =
       let is-set : ¬ Lacks = λ lacks. false≢true (sym (ap is_set lacks.1) ∙ ap is_set (under_it set)) in
       let none : Accepted (move_rows n d) = by_the_last_code (passes is-set (none_applies refl)) in
@@ -74,7 +72,7 @@ module _ (n : Node) (g : Groups) (b : List ℕ) (number : ℕ) (least : 1 ≤ nu
         stands = does.a_motor_that_is_there_stands c.is_a_moveto none p aim;
       }
 
-  is_refused_lem : ip_of n.favourites number ≡ Unset → RefusedBy n b (turn_of n g b) 0x23
+  is_refused_lem : ip_of n.favourites number ≡ None → RefusedBy n b (turn_of n g b) 0x23
   is_refused_lem unset =
       let (code, (first, refused)) = (codes n g b c.arrives).a_moveto_is_refused c.is_a_moveto in
       let is : code ≡ 0x23 = one_number (move_rows n d) code 0x23 first (by_the_last_code (applies (c.by_function_2, under_it unset))) in
@@ -91,18 +89,18 @@ module _ (n : Node) (g : Groups) (b : List ℕ) (a : Arrives n g b) (m : message
     most : number ≤ 16
     under_it : ip_of (turn_of n g b).node.favourites number ≡ x
 
-  left_so : {number : ℕ} {x : Ip} {after : Node} → 1 ≤ number → number ≤ 16 → CarriedOut n b (turn_of n g b) after Keep
+  left_so : {number : ℕ} {x : Ip} {after : Node} → 1 ≤ number → number ≤ 16 → CarriedOut n b (turn_of n g b) after None
       → ip_of after.favourites number ≡ x → Left number x
   left_so {number} least most done e =
       record { least = least; most = most; under_it = ap (λ (k : Node). ip_of k.favourites number) done.the_board ∙ e }
 
   one : {x : Ip} → byte_at content 0 ≢ 4
-      → (after : Node) × (CarriedOut n b (turn_of n g b) after Keep × OneIp n after (byte_at content 1) x) → Left (byte_at content 1) x
+      → (after : Node) × (CarriedOut n b (turn_of n g b) after None × OneIp n after (byte_at content 1) x) → Left (byte_at content 1) x
   one other (after, (done, is)) =
       let (least, most) = names_an_ip (byte_at content 0) (byte_at content 1) (word_at content 2) (accepted_order n content none) other in
       left_so least most done is.the_ip_named
 
-  stored_so : {number : ℕ} {p : Pulse} → Stores n content number p → Left number (At p)
+  stored_so : {number : ℕ} {p : Pulse} → Stores n content number p → Left number (Some p)
   stored_so (here f) = one (λ e. omega (arith, f, e)) ((effects n g b a).an_ip_is_set_here m none f)
   stored_so (at_a_percent f) = one (λ e. omega (arith, f, e)) ((effects n g b a).an_ip_is_set_at_a_percent m none f)
   stored_so {number} (as_a_share f least within) =
@@ -110,7 +108,7 @@ module _ (n : Node) (g : Groups) (b : List ℕ) (a : Arrives n g b) (m : message
       let (some, few) = names_a_count (byte_at content 0) (byte_at content 1) (word_at content 2) (accepted_order n content none) f in
       left_so least (omega (arith, within, few)) done (is.to_the_count number least within)
 
-  emptied_so : {number : ℕ} → Empties content number → Left number Unset
+  emptied_so : {number : ℕ} → Empties content number → Left number None
   emptied_so (deleted f) = one (λ e. omega (arith, f, e)) ((effects n g b a).an_ip_is_deleted m none f)
   emptied_so {number} (beyond_the_shares f beyond most) =
       let (after, (done, is)) = (effects n g b a).ips_are_shared_out m none f in

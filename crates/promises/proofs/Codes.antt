@@ -14,24 +14,20 @@ use Rattle.meaning.specs.Membership.{is_in, IsOneOf, as_first, as_later, one_of,
 use Rattle.frame.specs.Layout.{message, source, data_of}
 use Rattle.frame.specs.Words.{word_at}
 use Rattle.travel.specs.Units.{ip}
-use Rattle.board.specs.Favourites.{is_number, is_set, ip_at}
+use Rattle.board.specs.Favourites.{is_number, is_set, ip_at, Ip}
 use Rattle.board.specs.Label.{is_label}
 use Rattle.board.specs.Lock.{admits}
 use Rattle.board.specs.Node.{with_label}
 use Rattle.board.specs.Groups.{Groups}
 use Rattle.board.specs.declared.favourites.Favourites.{Favourites}
-use Rattle.board.specs.declared.favourites.Ip.{Ip}
-use Rattle.board.specs.declared.favourites.Ip.TheVariants.{Unset, At}
-use Rattle.board.specs.declared.groups.Change.TheVariants.{Keep, Put}
 use Rattle.board.specs.declared.whole.Node.{Node}
 use Rattle.messages.specs.Fields.{byte_at}
 use Rattle.messages.specs.Outcome.{acts, posts, refusals, refusing}
 use Rattle.messages.specs.Table.{message_rows}
-use Rattle.messages.specs.Motor.{stop_codes, stopped, stop_row, aim_of, aim_in, is_aim, target_of, move_codes, moved, move_row}
+use Rattle.messages.specs.Motor.{stop_codes, stopped, stop_row, aim_of, aim_in, target_of, move_codes, moved, move_row}
 use Rattle.messages.specs.Ips.{
   order_of,
   order_in,
-  is_order,
   finds_its_ip,
   ordered,
   set_ip_codes,
@@ -71,6 +67,8 @@ use Rattle.promises.specs.Demand2.Effects.{Arrives}
 use Rattle.promises.proofs.Labels.{a_label_exactly_when}
 use Rattle.promises.proofs.First.{numbered, Alike, at_the_end, in_other_words, as_it_is, fails_exactly_when}
 use Rattle.promises.proofs.Turns.{code_number, came_to, refused_by_lem, first_code, accepted_is_done}
+use Rattle.std.specs.Prelude.{Some, None, is_some}
+use Rattle.board.specs.Groups.{put}
 
 -- A check that does not fail succeeds.
 pub not_false_is_true : (t : Bool) → (t ≡ false → ⊥) → t ≡ true
@@ -113,32 +111,32 @@ no_number i = (to, from)
         (fails_exactly_when (is_number (ip i)) (is_number_lem i)).1
         (λ (l, u). ⊎_elim (λ (h : i < 1). omega arith) (λ (h : 16 < i). omega arith) out)
 
-not_set : (x : Ip) → (is_set x ≡ false) ↔ (x ≡ Unset)
-not_set Unset = (λ e. refl, λ e. refl)
-not_set (At p) = (λ e. absurd (false≢true (sym e)), λ e. ap is_set e)
+not_set : (x : Ip) → (is_set x ≡ false) ↔ (x ≡ None)
+not_set None = (λ e. refl, λ e. refl)
+not_set (Some p) = (λ e. absurd (false≢true (sym e)), λ e. ap is_set e)
 
 -- ---- 03h
 -- A function and a position that are a move aim somewhere.
-pub a_move_exactly_when : (function position : ℕ) → IsAMove function position ↔ (is_aim (aim_of function position) ≡ true)
+pub a_move_exactly_when : (function position : ℕ) → IsAMove function position ↔ (is_some (aim_of function position) ≡ true)
 a_move_exactly_when function position = (to, from)
   where
-    to : IsAMove function position → is_aim (aim_of function position) ≡ true
+    to : IsAMove function position → is_some (aim_of function position) ≡ true
     to (inl f) = rw f
     to (inr (inl f)) = rw f
     to (inr (inr (inl (f, (l, u))))) = rw (f, le-leb 1 position l, le-leb position 16 u)
     to (inr (inr (inr (f, h)))) = rw (f, le-leb position 100 h)
 
-    to_an_ip : eqb function 2 ≡ true → is_aim (aim_of function position) ≡ true → IsAMove function position
+    to_an_ip : eqb function 2 ≡ true → is_some (aim_of function position) ≡ true → IsAMove function position
     to_an_ip t e =
         let f = eqb-true function 2 t in
         by_test (is_number (ip position)) (λ i. inr (inr (inl (f, (is_number_lem position).1 i)))) (λ i. absurd (false≢true (rw (f, i) at e)))
 
-    to_a_percent : eqb function 4 ≡ true → is_aim (aim_of function position) ≡ true → IsAMove function position
+    to_a_percent : eqb function 4 ≡ true → is_some (aim_of function position) ≡ true → IsAMove function position
     to_a_percent t e =
         let f = eqb-true function 4 t in
         by_test (leb position 100) (λ u. inr (inr (inr (f, leb-true position 100 u)))) (λ u. absurd (false≢true (rw (f, u) at e)))
 
-    from : is_aim (aim_of function position) ≡ true → IsAMove function position
+    from : is_some (aim_of function position) ≡ true → IsAMove function position
     from e =
         by_test (eqb function 0) (λ t. inl (eqb-true function 0 t)) λ r.
         by_test (eqb function 1) (λ t. inr (inl (eqb-true function 1 t))) λ s.
@@ -147,7 +145,7 @@ a_move_exactly_when function position = (to, from)
 
 -- Of a move, only the one to an IP can lack its target.
 no_target : (n : Node) (function position : ℕ) → IsAMove function position
-    → (is_set (target_of n (aim_of function position)) ≡ false) ↔ ((function ≡ 2) × (ip_of n.favourites position ≡ Unset))
+    → (is_set (target_of n (aim_of function position)) ≡ false) ↔ ((function ≡ 2) × (ip_of n.favourites position ≡ None))
 no_target n function position (inl f) = (λ e. absurd (false≢true (sym (rw f at e))), λ (two, u). absurd (omega (arith, f, two)))
 no_target n function position (inr (inl f)) = (λ e. absurd (false≢true (sym (rw f at e))), λ (two, u). absurd (omega (arith, f, two)))
 no_target n function position (inr (inr (inl (f, (l, u))))) =
@@ -159,30 +157,30 @@ no_target n function position (inr (inr (inr (f, h)))) =
 
 -- ---- 15h
 pub an_order_exactly_when : (function index value : ℕ)
-    → SetsAnIp function index value ↔ (is_order (order_of function (ip index) value) ≡ true)
+    → SetsAnIp function index value ↔ (is_some (order_of function (ip index) value) ≡ true)
 an_order_exactly_when function index value = (to, from)
   where
-    to : SetsAnIp function index value → is_order (order_of function (ip index) value) ≡ true
-    to (inl (f, (l, u))) = ap is_order (sharing function (ip index) value f) ∙ rw (le-ltb value 1 l, le-ltb 16 value u)
-    to (inr (i, inl f)) = ap is_order (deleting function (ip index) value ((is_number_lem index).0 i) f)
-    to (inr (i, inr (inl f))) = ap is_order (here function (ip index) value ((is_number_lem index).0 i) f)
-    to (inr (i, inr (inr (f, h)))) = ap is_order (percent_at function (ip index) value ((is_number_lem index).0 i) f h)
+    to : SetsAnIp function index value → is_some (order_of function (ip index) value) ≡ true
+    to (inl (f, (l, u))) = ap is_some (sharing function (ip index) value f) ∙ rw (le-ltb value 1 l, le-ltb 16 value u)
+    to (inr (i, inl f)) = ap is_some (deleting function (ip index) value ((is_number_lem index).0 i) f)
+    to (inr (i, inr (inl f))) = ap is_some (here function (ip index) value ((is_number_lem index).0 i) f)
+    to (inr (i, inr (inr (f, h)))) = ap is_some (percent_at function (ip index) value ((is_number_lem index).0 i) f h)
 
-    shares : function ≡ 4 → is_order (order_of function (ip index) value) ≡ true → SetsAnIp function index value
+    shares : function ≡ 4 → is_some (order_of function (ip index) value) ≡ true → SetsAnIp function index value
     shares f e =
-        let k = sym (ap is_order (sharing function (ip index) value f)) ∙ e in
+        let k = sym (ap is_some (sharing function (ip index) value f)) ∙ e in
         by_test (ltb value 1) (λ t. absurd (false≢true (rw t at k))) λ t.
         by_test (ltb 16 value) (λ u. absurd (false≢true (rw (t, u) at k))) λ u.
         inl (f, (ltb-false value 1 t, ltb-false 16 value u))
 
-    at_a_percent : is_number (ip index) ≡ true → function ≡ 3 → is_order (order_of function (ip index) value) ≡ true
+    at_a_percent : is_number (ip index) ≡ true → function ≡ 3 → is_some (order_of function (ip index) value) ≡ true
         → SetsAnIp function index value
     at_a_percent i f e =
         by_test (leb value 100)
         (λ t. inr ((is_number_lem index).1 i, inr (inr (f, leb-true value 100 t))))
-        (λ t. absurd (false≢true (sym (ap is_order (percent_beyond function (ip index) value i f (leb-false value 100 t))) ∙ e)))
+        (λ t. absurd (false≢true (sym (ap is_some (percent_beyond function (ip index) value i f (leb-false value 100 t))) ∙ e)))
 
-    from : is_order (order_of function (ip index) value) ≡ true → SetsAnIp function index value
+    from : is_some (order_of function (ip index) value) ≡ true → SetsAnIp function index value
     from e =
         by_test (eqb function 4) (λ t. shares (eqb-true function 4 t) e) λ four.
         by_test (is_number (ip index)) (λ i.
@@ -194,7 +192,7 @@ an_order_exactly_when function index value = (to, from)
 
 -- Of an order, only a deletion can lack its IP.
 no_ip : (f : Favourites) (function index value : ℕ) → SetsAnIp function index value
-    → (finds_its_ip f (order_of function (ip index) value) ≡ false) ↔ ((function ≡ 0) × (ip_of f index ≡ Unset))
+    → (finds_its_ip f (order_of function (ip index) value) ≡ false) ↔ ((function ≡ 0) × (ip_of f index ≡ None))
 no_ip f function index value (inl (four, (l, u))) =
     let at = sharing function (ip index) value four in
     let set : finds_its_ip f (order_of function (ip index) value) ≡ true = ap (finds_its_ip f) at ∙ rw (le-ltb value 1 l, le-ltb 16 value u) in
@@ -233,17 +231,17 @@ module _ (n : Node) (d : List ℕ) where
   move_alike =
       let decided = a_move_exactly_when (byte_at d 0) (word_at d 1) in
       as_it_is λ short.
-      in_other_words (fails_exactly_when (is_aim (aim_in d)) decided) λ aimed.
+      in_other_words (fails_exactly_when (is_some (aim_in d)) decided) λ aimed.
       as_it_is λ locked. as_it_is λ blocked.
-      in_other_words (no_target n (byte_at d 0) (word_at d 1) (decided.1 (not_false_is_true (is_aim (aim_in d)) aimed))) λ set. at_the_end
+      in_other_words (no_target n (byte_at d 0) (word_at d 1) (decided.1 (not_false_is_true (is_some (aim_in d)) aimed))) λ set. at_the_end
 
   set_ip_alike : Alike (numbered code_number (refusals n (set_ip_codes n d (order_in d)))) (set_ip_rows n d)
   set_ip_alike =
       let decided = an_order_exactly_when (byte_at d 0) (byte_at d 1) (word_at d 2) in
       as_it_is λ short.
-      in_other_words (fails_exactly_when (is_order (order_in d)) decided) λ ordered.
+      in_other_words (fails_exactly_when (is_some (order_in d)) decided) λ ordered.
       in_other_words
-      (no_ip n.favourites (byte_at d 0) (byte_at d 1) (word_at d 2) (decided.1 (not_false_is_true (is_order (order_in d)) ordered)))
+      (no_ip n.favourites (byte_at d 0) (byte_at d 1) (word_at d 2) (decided.1 (not_false_is_true (is_some (order_in d)) ordered)))
       λ set. at_the_end
 
   ip_alike : Alike (numbered code_number (refusals n (ip_codes d (ip (byte_at d 0))))) (ip_rows d)
@@ -310,11 +308,11 @@ module _ (n : Node) (g : Groups) (b : List ℕ) (a : Arrives n g b) where
       (at_row n g (source b) (message b) content 0x25 m) refl (ip_rows content) (ip_alike n content)
 
   pub lock_by_lem : message b ≡ 0x16
-      → ByItsCodes (lock_rows n content) (acts (locked_by n (source b) (byte_at content 0) (byte_at content 1)) Keep)
+      → ByItsCodes (lock_rows n content) (acts (locked_by n (source b) (byte_at content 0) (byte_at content 1)) None)
   unfolding set_lock_row
   lock_by_lem m =
       by_its_codes (set_lock_codes n content (byte_at content 0) (byte_at content 1))
-      (acts (locked_by n (source b) (byte_at content 0) (byte_at content 1)) Keep)
+      (acts (locked_by n (source b) (byte_at content 0) (byte_at content 1)) None)
       (at_row n g (source b) (message b) content 0x16 m) refl (lock_rows n content) (lock_alike n content)
 
   pub group_by : message b ≡ 0x41 → ByItsCodes (group_rows 1 content) (posts n 0x61 (group_data g (byte_at content 0)))
@@ -324,17 +322,17 @@ module _ (n : Node) (g : Groups) (b : List ℕ) (a : Arrives n g b) where
       (at_row n g (source b) (message b) content 0x41 m) refl (group_rows 1 content) (group_alike n content 1)
 
   pub set_group_by : message b ≡ 0x51
-      → ByItsCodes (group_rows 4 content) (acts n (Put (byte_at content 0) (byte_at content 1) (byte_at content 2) (byte_at content 3)))
+      → ByItsCodes (group_rows 4 content) (acts n (Some (put (byte_at content 0) (byte_at content 1) (byte_at content 2) (byte_at content 3))))
   unfolding set_group_row
   set_group_by m =
       by_its_codes (group_codes 4 content (byte_at content 0))
-      (acts n (Put (byte_at content 0) (byte_at content 1) (byte_at content 2) (byte_at content 3)))
+      (acts n (Some (put (byte_at content 0) (byte_at content 1) (byte_at content 2) (byte_at content 3))))
       (at_row n g (source b) (message b) content 0x51 m) refl (group_rows 4 content) (group_alike n content 4)
 
-  pub label_by : message b ≡ 0x55 → ByItsCodes (label_rows content) (acts (with_label n (label_in content)) Keep)
+  pub label_by : message b ≡ 0x55 → ByItsCodes (label_rows content) (acts (with_label n (label_in content)) None)
   unfolding set_label_row
   label_by m =
-      by_its_codes (set_label_codes content) (acts (with_label n (label_in content)) Keep)
+      by_its_codes (set_label_codes content) (acts (with_label n (label_in content)) None)
       (at_row n g (source b) (message b) content 0x55 m) refl (label_rows content) (label_alike n content)
 
   -- A message that is none of the table's passes every row.

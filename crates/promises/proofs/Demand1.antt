@@ -12,11 +12,9 @@ use lib.Seq.{get_or-drop}
 use borrow.Author.Tests.{not-true}
 use Rattle.meaning.specs.Choice.{either}
 use Rattle.refusal.specs.declared.Refusal.{Refusal}
-use Rattle.frame.specs.Reading.{reading_of}
-use Rattle.frame.specs.Writing.{writing_of, frame_of, laid, buffer_after as buffer_written}
+use Rattle.frame.specs.Reading.{reading_of, Reading}
+use Rattle.frame.specs.Writing.{writing_of, frame_of, laid, buffer_after as buffer_written, Writing}
 use Rattle.frame.specs.declared.header.Header.{Header}
-use Rattle.frame.specs.declared.reading.Reading.{Reading}
-use Rattle.frame.specs.declared.writing.Writing.{Writing}
 use Rattle.frame.proofs.Buffers.{refused_writes_nothing}
 use Rattle.line.specs.Reader.{is_sound, ending_silence, ended_with, answered_by, step_of, close_of, goes_on, run_of, ran_of, begun, fresh, no_bytes}
 use Rattle.line.specs.declared.reader.Reader.{Reader}
@@ -25,11 +23,10 @@ use Rattle.line.specs.declared.reader.Ran.{Ran}
 use Rattle.line.proofs.Steps.{step_broken, close_broken, run_broken, run_unequal, run_past_end}
 use Rattle.board.specs.Settings.{in_range}
 use Rattle.board.specs.Node.{fresh as fresh_node}
-use Rattle.board.specs.Events.{set_up, after_pulse, after_blocked, after_cleared, after_power_up, refused_by}
+use Rattle.board.specs.Events.{set_up, after_pulse, after_blocked, after_cleared, after_power_up, refused_by, Verdict}
 use Rattle.board.specs.declared.settings.Settings.{Settings}
 use Rattle.board.specs.declared.whole.Node.{Node}
 use Rattle.board.specs.declared.events.After.{After}
-use Rattle.board.specs.declared.events.Verdict.{Verdict}
 use Rattle.board.proofs.StateRows.{by_settings}
 use Rattle.board.proofs.Refusals.{
   refused_pulse_changes_nothing,
@@ -37,18 +34,16 @@ use Rattle.board.proofs.Refusals.{
   refused_clearing_changes_nothing,
   refused_power_up_changes_nothing,
 }
-use Rattle.node.specs.declared.turn.Answer as turn
+use Rattle.node.specs.Turn.{Answer as Turning}
 use Rattle.node.specs.Frames.{turn_of}
 use Rattle.meaning.specs.Membership.{is_in, IsOneOf, is_in_lem}
 use Rattle.meaning.specs.Cases.{zero_is_one}
 use Rattle.node.proofs.Laws.{refused_by_a_number_changes_nothing}
 use Rattle.motors.specs.Filing.{filed_of, struck_of}
-use Rattle.motors.specs.declared.answer.Answer as motors
 use Rattle.motors.proofs.FilingLaws.{a_refused_frame_changes_no_record}
 use Rattle.motors.proofs.StrikingLaws.{a_refused_striking_changes_no_record}
 use Rattle.form.specs.Reading.{read_of}
-use Rattle.form.specs.Writing.{written_of}
-use Rattle.form.specs.declared.writing.Written.{Written}
+use Rattle.form.specs.Writing.{written_of, Written}
 use Rattle.form.proofs.FormLaws.{a_refused_form_leaves_the_run_as_it_was, a_refused_writing_changes_no_byte}
 use Rattle.rts.specs.{
   Table.{data_of as content_of},
@@ -63,29 +58,31 @@ use Rattle.promises.specs.Demand1.{Demand1}
 use Rattle.promises.proofs.ReaderInRange.{is_sound_lem, is_broken}
 use Rattle.promises.proofs.BoardInRange as board
 use Rattle.promises.proofs.Rows.{rows}
+use Rattle.motors.specs.Answer.{Answer}
+use Rattle.std.specs.Prelude.{Some, None, Ok, Err}
 
 -- ---- a number that is not 0 is a refusal's
 module _ {P : Type 0} where
-  of_writing : (x : Writing) → write_number x ≢ 0 → ((q : Refusal) → x ≡ Writing.Refused q → P) → P
-  of_writing (Writing.Next place) k f = absurd (k refl)
-  of_writing (Writing.Refused q) k f = f q refl
+  of_writing : (x : Writing) → write_number x ≢ 0 → ((q : Refusal) → x ≡ Err q → P) → P
+  of_writing (Ok place) k f = absurd (k refl)
+  of_writing (Err q) k f = f q refl
 
-  of_event : (x : Verdict) → event_number x ≢ 0 → ((q : Refusal) → x ≡ Verdict.Refused q → P) → P
-  of_event Verdict.Done k f = absurd (k refl)
-  of_event (Verdict.Refused q) k f = f q refl
+  of_event : (x : Verdict) → event_number x ≢ 0 → ((q : Refusal) → x ≡ Err q → P) → P
+  of_event (Ok tt) k f = absurd (k refl)
+  of_event (Err q) k f = f q refl
 
-  of_turn : (x : turn.Answer) → turn_number x ≢ 0 → ((q : Refusal) → x ≡ turn.Answer.Refused q → P) → P
-  of_turn turn.Answer.Silent k f = absurd (k refl)
-  of_turn turn.Answer.Replied k f = absurd (k refl)
-  of_turn (turn.Answer.Refused q) k f = f q refl
+  of_turn : (x : Turning) → turn_number x ≢ 0 → ((q : Refusal) → x ≡ Err q → P) → P
+  of_turn (Ok None) k f = absurd (k refl)
+  of_turn (Ok (Some reply)) k f = absurd (k refl)
+  of_turn (Err q) k f = f q refl
 
-  of_register : (x : motors.Answer) → register_number x ≢ 0 → ((q : Refusal) → x ≡ motors.Answer.Refused q → P) → P
-  of_register (motors.Answer.Count n) k f = absurd (k refl)
-  of_register (motors.Answer.Refused q) k f = f q refl
+  of_register : (x : Answer) → register_number x ≢ 0 → ((q : Refusal) → x ≡ Err q → P) → P
+  of_register (Ok n) k f = absurd (k refl)
+  of_register (Err q) k f = f q refl
 
-  of_form : (x : Written) → form_number x ≢ 0 → ((q : Refusal) → x ≡ Written.Refused q → P) → P
-  of_form (Written.Bytes n) k f = absurd (k refl)
-  of_form (Written.Refused q) k f = f q refl
+  of_form : (x : Written) → form_number x ≢ 0 → ((q : Refusal) → x ≡ Err q → P) → P
+  of_form (Ok n) k f = absurd (k refl)
+  of_form (Err q) k f = f q refl
 
   -- 0 and 7, 8 and 9 are no numbers of a bundle.
   no_bundle : (k : ℕ) → is_in k no_frame ≡ false → IsOneOf k no_frame → P
@@ -97,8 +94,8 @@ write buffer place h d k = of_writing (writing_of (length buffer) place h d) k (
 
 -- A buffer in which nothing was written is as it was.
 laid_by : (a : Writing) (buffer : List ℕ) (place : ℕ) (w : List ℕ) → write_number a ≢ 0 → laid a buffer place w ≡ buffer
-laid_by (Writing.Next next) buffer place w k = absurd (k refl)
-laid_by (Writing.Refused q) buffer place w k = refl
+laid_by (Ok next) buffer place w k = absurd (k refl)
+laid_by (Err q) buffer place w k = refl
 
 write_message : (buffer : List ℕ) (place : ℕ) (e : Envelope) (m : Message) → write_number (message_written (length buffer) place e m) ≢ 0
     → message_laid buffer place e m ≡ buffer
@@ -110,8 +107,8 @@ abbrev Dropped : Reader → Stepped → Type 0
 Dropped next s = IsOneOf (line_number s.answer) no_frame → (s.reader ≡ next) × (s.bundle ≡ no_bytes)
 
 answered_drops : (x : Reading) (kept : List ℕ) (next : Reader) → Dropped next (answered_by x kept next)
-answered_drops (Reading.Frame h count) kept next i = no_bundle 0 refl i
-answered_drops (Reading.Refused q) kept next i = (refl, refl)
+answered_drops (Ok (h, count)) kept next i = no_bundle 0 refl i
+answered_drops (Err q) kept next i = (refl, refl)
 
 ended_drops : (r next : Reader) → Dropped next (ended_with r next)
 unfolding ended_with

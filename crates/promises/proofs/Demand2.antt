@@ -12,6 +12,7 @@ use Rattle.node.proofs.Laws.{
   an_entry_put_is_one_of_the_sixteen,
 }
 use Rattle.node.specs.Frames.{turn_of}
+use Rattle.promises.specs.Reply.{reply_in}
 use Rattle.promises.specs.Demand2.Board.{Board}
 use Rattle.promises.specs.Demand2.Positions.{IsNearest, Positions}
 use Rattle.promises.specs.Demand2.{Demand2}
@@ -48,7 +49,7 @@ board =
       board_once_sound_always_sound = turned_in_range;
       only_the_sixteen_entries_are_put = an_entry_put_is_one_of_the_sixteen;
       a_reply_gets_no_reply = λ n g b i. untouched n (turn_of n g b) (a_reply_message_is_never_answered n g b i);
-      all_that_is_sent_is_a_reply = sends_a_reply;
+      all_that_is_sent_is_a_reply = λ n g b i t u. sends_a_reply n g b i t u (reply_in (turn_of n g b));
       every_reply_is_a_frame_to_the_asker = replies_properly;
       since_set_up = since_set_up;
       group_table = group_table;

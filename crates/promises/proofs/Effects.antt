@@ -16,19 +16,13 @@ use Rattle.frame.specs.Words.{word_at}
 use Rattle.travel.specs.Units.{percent, ip}
 use Rattle.travel.specs.Position.{pulse_of_percent}
 use Rattle.travel.specs.declared.Pulse.{Pulse}
-use Rattle.board.specs.Drive.{halted, halted_from, moved_to}
-use Rattle.board.specs.Favourites.{is_number, with_ip, shared_out, pulse_of}
+use Rattle.board.specs.Drive.{halted, halted_from, moved_to, Motion}
+use Rattle.board.specs.Favourites.{is_number, with_ip, shared_out, pulse_of, Ip}
 use Rattle.board.specs.Groups.{Groups}
 use Rattle.board.specs.Lock.{locked}
 use Rattle.board.specs.Node.{with_drive, with_favourites, with_lock, with_label}
 use Rattle.board.specs.declared.drive.Drive.{Drive}
-use Rattle.board.specs.declared.drive.Motion.{Motion}
-use Rattle.board.specs.declared.drive.Motion.TheVariants.{Still, Running}
 use Rattle.board.specs.declared.favourites.Favourites.{Favourites}
-use Rattle.board.specs.declared.favourites.Ip.{Ip}
-use Rattle.board.specs.declared.favourites.Ip.TheVariants.{Unset, At}
-use Rattle.board.specs.declared.favourites.Slot.{Slot}
-use Rattle.board.specs.declared.groups.Change.TheVariants.{Keep}
 use Rattle.board.specs.declared.whole.Node.{Node}
 use Rattle.messages.specs.Fields.{byte_at}
 use Rattle.messages.specs.Outcome.{acts}
@@ -40,7 +34,7 @@ use Rattle.messages.specs.declared.favourites.Order.TheVariants.{Share}
 use Rattle.messages.proofs.FirstBytes.{front}
 use Rattle.messages.proofs.Orders.{sharing, deleting, here, percent_at}
 use Rattle.node.specs.Frames.{turn_of}
-use Rattle.promises.specs.BoardParts.{slot, drive}
+use Rattle.promises.specs.BoardParts.{drive}
 use Rattle.promises.specs.Demand2.Codes.{Accepted, IsAMove, SetsAnIp, stop_rows, move_rows, set_ip_rows, lock_rows, label_rows}
 use Rattle.promises.specs.Demand2.Turns.{CarriedOut}
 use Rattle.promises.specs.Demand2.Effects.{Arrives, AimedAt, down, up, to_ip_lem, to_percent_lem, OneIp, SharedOut, Effects}
@@ -60,6 +54,7 @@ use Rattle.promises.proofs.Codes.{
   set_group_by,
   label_by,
 }
+use Rattle.std.specs.Prelude.{Option, Some, None}
 
 -- ---- 03h
 position_from_1_to_16 : (function position : ℕ) → IsAMove function position → function ≡ 2 → (1 ≤ position) × (position ≤ 16)
@@ -75,7 +70,7 @@ position_to_100 function position (inr (inr (inl (f, h)))) four = absurd (omega 
 position_to_100 function position (inr (inr (inr (f, h)))) four = h
 
 aims_at : (n : Node) (d : List ℕ) → IsAMove (byte_at d 0) (word_at d 1) → (target : Pulse) → AimedAt n d target
-    → target_of n (aim_of (byte_at d 0) (word_at d 1)) ≡ At target
+    → target_of n (aim_of (byte_at d 0) (word_at d 1)) ≡ Some target
 aims_at n d move target (down f) = rw f
 aims_at n d move target (up f) = rw f
 aims_at n d move target (to_ip_lem f i) =
@@ -128,15 +123,14 @@ one_ip n sixteen i x l u =
         same_motor = refl;
         same_lock = refl;
         same_label = refl;
-        sixteen_again = length-set slots (i - 1) (slot x) ∙ sixteen;
+        sixteen_again = length-set slots (i - 1) x ∙ sixteen;
       };
-      the_ip_named = ap (λ (s : Slot). s.ip) (get_or-set_same slots (i - 1) (slot x) (slot Unset) (omega (arith, sixteen, l, u)));
+      the_ip_named = (get_or-set_same slots (i - 1) x None (omega (arith, sixteen, l, u)));
       every_other_ip = λ other first last differs.
-          ap (λ (s : Slot). s.ip)
-          (get_or-set_other slots (i - 1) (other - 1) (slot x) (slot Unset) (λ e. differs (omega (arith, e, l, first))));
+          (get_or-set_other slots (i - 1) (other - 1) x None (λ e. differs (omega (arith, e, l, first))));
     })
   where
-    slots : List Slot
+    slots : List Ip
     slots = n.favourites.slots
 
 -- IPs that share the travel.
@@ -156,11 +150,11 @@ module _ (n : Node) (g : Groups) (b : List ℕ) (a : Arrives n g b) where
   content = data_of b
 
   abbrev Carried : Node → Type 0
-  Carried after = CarriedOut n b (turn_of n g b) after Keep
+  Carried after = CarriedOut n b (turn_of n g b) after None
 
   -- 02h
   stopped_so : message b ≡ 0x02 → Accepted (stop_rows n content) → Carried (with_drive n (halted n.drive))
-  stopped_so m none = carried_out n g b a (with_drive n (halted n.drive)) Keep ((stop_by n g b a m).accepted none)
+  stopped_so m none = carried_out n g b a (with_drive n (halted n.drive)) None ((stop_by n g b a m).accepted none)
 
   stopped_from : (motion : Motion) → n.drive.motion ≡ motion → message b ≡ 0x02 → Accepted (stop_rows n content)
       → Carried (with_drive n (halted_from motion n.drive))
@@ -170,20 +164,20 @@ module _ (n : Node) (g : Groups) (b : List ℕ) (a : Arrives n g b) where
   moved_so : message b ≡ 0x03 → Accepted (move_rows n content) → (target : Pulse) → AimedAt n content target
       → Carried (with_drive n (moved_to n.drive target))
   moved_so m none target aim =
-      carried_out n g b a (with_drive n (moved_to n.drive target)) Keep
+      carried_out n g b a (with_drive n (moved_to n.drive target)) None
       ((move_by n g b a m).accepted none
-      ∙ ap (λ (x : Ip). acts (with_drive n (moved_to n.drive (pulse_of x))) Keep) (aims_at n content (accepted_move n content none).0 target aim))
+      ∙ ap (λ (x : Ip). acts (with_drive n (moved_to n.drive (pulse_of x))) None) (aims_at n content (accepted_move n content none).0 target aim))
 
   moved_as : message b ≡ 0x03 → Accepted (move_rows n content) → (target : Pulse) → AimedAt n content target
       → {d : Drive} → moved_to n.drive target ≡ d → Carried (with_drive n d)
   moved_as m none target aim e = subst (λ (x : Drive). Carried (with_drive n x)) e (moved_so m none target aim)
 
   -- 15h
-  ordered_so : message b ≡ 0x15 → Accepted (set_ip_rows n content) → (order : Order) → order_in content ≡ order
+  ordered_so : message b ≡ 0x15 → Accepted (set_ip_rows n content) → (order : Option Order) → order_in content ≡ order
       → Carried (with_favourites n (ordered n order))
   ordered_so m none order e =
-      carried_out n g b a (with_favourites n (ordered n order)) Keep
-      ((set_ip_by n g b a m).accepted none ∙ ap (λ (x : Order). acts (with_favourites n (ordered n x)) Keep) e)
+      carried_out n g b a (with_favourites n (ordered n order)) None
+      ((set_ip_by n g b a m).accepted none ∙ ap (λ (x : Option Order). acts (with_favourites n (ordered n x)) None) e)
 
   -- The IP that functions 0, 1 and 3 name.
   abbrev index : ℕ
@@ -206,18 +200,18 @@ module _ (n : Node) (g : Groups) (b : List ℕ) (a : Arrives n g b) where
       → (after : Node) × (Carried after × SharedOut n after (word_at content 2))
   shared_so m none four =
       let (least, most) = names_a_count (byte_at content 0) index (word_at content 2) (accepted_order n content none) four in
-      let order : order_in content ≡ Share (word_at content 2) =
+      let order : order_in content ≡ Some (Share (word_at content 2)) =
       sharing (byte_at content 0) (ip index) (word_at content 2) four ∙ rw (le-ltb (word_at content 2) 1 least, le-ltb 16 (word_at content 2) most) in (
         with_favourites n (shared_out (word_at content 2) n.settings.travel),
-        (ordered_so m none (Share (word_at content 2)) order, shared_out_lem n (word_at content 2) most),
+        (ordered_so m none (Some (Share (word_at content 2))) order, shared_out_lem n (word_at content 2) most),
       )
 
   -- 16h
   locked_so : (function : ℕ) → message b ≡ 0x16 → Accepted (lock_rows n content) → byte_at content 0 ≡ function
       → Carried (locked_by n (source b) function (byte_at content 1))
   locked_so function m none f =
-      carried_out n g b a (locked_by n (source b) function (byte_at content 1)) Keep
-      ((lock_by_lem n g b a m).accepted none ∙ ap (λ (k : ℕ). acts (locked_by n (source b) k (byte_at content 1)) Keep) f)
+      carried_out n g b a (locked_by n (source b) function (byte_at content 1)) None
+      ((lock_by_lem n g b a m).accepted none ∙ ap (λ (k : ℕ). acts (locked_by n (source b) k (byte_at content 1)) None) f)
 
   locked_from : (motion : Motion) → n.drive.motion ≡ motion → message b ≡ 0x16 → Accepted (lock_rows n content) → byte_at content 0 ≡ 1
       → Carried (with_lock (with_drive n (halted_from motion n.drive)) (locked n.lock (source b) (byte_at content 1)))
@@ -233,27 +227,27 @@ module _ (n : Node) (g : Groups) (b : List ℕ) (a : Arrives n g b) where
   clear none = (accepted_move n content none).1
 
   down_so : Accepted (move_rows n content) → (target : Pulse) → at < target.0
-      → moved_to n.drive target ≡ drive n.drive.position (Running target) 0 1 1 false
+      → moved_to n.drive target ≡ drive n.drive.position (Some target) 0 1 1 false
   down_so none target h = rw (ne_eqb at target.0 (λ e. omega arith), lt-ltb at target.0 h, clear none)
 
   up_so : Accepted (move_rows n content) → (target : Pulse) → target.0 < at
-      → moved_to n.drive target ≡ drive n.drive.position (Running target) 1 1 1 false
+      → moved_to n.drive target ≡ drive n.drive.position (Some target) 1 1 1 false
   up_so none target h = rw (ne_eqb at target.0 (λ e. omega arith), le-ltb at target.0 (omega arith), clear none)
 
   there_so : Accepted (move_rows n content) → (target : Pulse) → at ≡ target.0
-      → moved_to n.drive target ≡ drive n.drive.position Still n.drive.direction 0 0 false
+      → moved_to n.drive target ≡ drive n.drive.position None n.drive.direction 0 0 false
   there_so none target h = rw (eq-eqb at target.0 h, clear none)
 
   -- The order that each function of 15h gives.
   module _ (i : is_number (ip index) ≡ true) where
-    deletes : byte_at content 0 ≡ 0 → ordered n (order_in content) ≡ with_ip n.favourites (ip index) Unset
+    deletes : byte_at content 0 ≡ 0 → ordered n (order_in content) ≡ with_ip n.favourites (ip index) None
     deletes f = ap (ordered n) (deleting (byte_at content 0) (ip index) (word_at content 2) i f)
 
-    sets_here : byte_at content 0 ≡ 1 → ordered n (order_in content) ≡ with_ip n.favourites (ip index) (At n.drive.position)
+    sets_here : byte_at content 0 ≡ 1 → ordered n (order_in content) ≡ with_ip n.favourites (ip index) (Some n.drive.position)
     sets_here f = ap (ordered n) (here (byte_at content 0) (ip index) (word_at content 2) i f)
 
     abbrev at_percent : Ip
-    at_percent = At (pulse_of_percent (percent (word_at content 2)) n.settings.travel)
+    at_percent = Some (pulse_of_percent (percent (word_at content 2)) n.settings.travel)
 
     sets_at_a_percent : Accepted (set_ip_rows n content) → byte_at content 0 ≡ 3
         → ordered n (order_in content) ≡ with_ip n.favourites (ip index) at_percent
@@ -266,15 +260,15 @@ module _ (n : Node) (g : Groups) (b : List ℕ) (a : Arrives n g b) where
   labelled_so m none =
       let short = (behind (λ e. omega arith) none).0 in
       let enough = by_test (leb 16 (length content)) (leb-true 16 (length content)) (λ e. absurd (short (leb-false 16 (length content) e))) in
-      carried_out n g b a (with_label n (take 16 content)) Keep
+      carried_out n g b a (with_label n (take 16 content)) None
       ((label_by n g b a m).accepted none
-      ∙ ap (λ (l : List ℕ). acts (with_label n l) Keep) (front 16 content enough))
+      ∙ ap (λ (l : List ℕ). acts (with_label n l) None) (front 16 content enough))
 
   pub effects : Effects n b (turn_of n g b)
   effects =
       record {
-        a_running_motor_is_stopped = λ m none target runs. stopped_from (Running target) runs m none;
-        a_stop_of_a_motor_at_rest_changes_nothing = λ m none rests. stopped_from Still rests m none;
+        a_running_motor_is_stopped = λ m none target runs. stopped_from (Some target) runs m none;
+        a_stop_of_a_motor_at_rest_changes_nothing = λ m none rests. stopped_from None rests m none;
         a_motor_sent_down_runs_down = λ m none target aim h. moved_as m none target aim (down_so none target h);
         a_motor_sent_up_runs_up = λ m none target aim h. moved_as m none target aim (up_so none target h);
         a_motor_that_is_there_stands = λ m none target aim h. moved_as m none target aim (there_so none target h);
@@ -282,8 +276,8 @@ module _ (n : Node) (g : Groups) (b : List ℕ) (a : Arrives n g b) where
         an_ip_is_set_here = λ m none f. one_so m none (λ e. omega arith) _ (λ i. sets_here i f);
         an_ip_is_set_at_a_percent = λ m none f. one_so m none (λ e. omega arith) _ (λ i. sets_at_a_percent i none f);
         ips_are_shared_out = shared_so;
-        a_lock_stops_a_running_motor_and_is_held_by_its_sender = λ m none f target runs. locked_from (Running target) runs m none f;
-        a_lock_of_a_motor_at_rest_is_held_by_its_sender = λ m none f rests. locked_from Still rests m none f;
+        a_lock_stops_a_running_motor_and_is_held_by_its_sender = λ m none f target runs. locked_from (Some target) runs m none f;
+        a_lock_of_a_motor_at_rest_is_held_by_its_sender = λ m none f rests. locked_from None rests m none f;
         an_unlocked_board_has_no_holder = locked_so 0;
         a_lock_is_saved = locked_so 3;
         a_lock_is_saved_no_more = locked_so 4;

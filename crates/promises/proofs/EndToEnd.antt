@@ -11,14 +11,14 @@ use Rattle.travel.specs.Position.{percent_of_pulse, percent_at_most_100}
 use Rattle.travel.specs.declared.Pulse.{Pulse}
 use Rattle.board.specs.Favourites.{is_at, first_at, reported_ip}
 use Rattle.board.specs.Groups.{Groups}
-use Rattle.board.specs.declared.favourites.Slot.{Slot}
 use Rattle.board.specs.declared.whole.Node.{Node}
 use Rattle.node.specs.Frames.{turn_of}
 use Rattle.motors.specs.Filing.{filed_of}
 use Rattle.motors.specs.declared.motor.Motor.{Motor}
+use Rattle.board.specs.Favourites.{Ip}
 use Rattle.promises.specs.Wire.{raw, message, data_count}
 use Rattle.promises.specs.Typed.{Typed, TypedTable}
-use Rattle.promises.specs.Reply.{sent, IsReply}
+use Rattle.promises.specs.Reply.{sent, IsReply, reply_in}
 use Rattle.promises.specs.RegisterInRange.{RegisterInRange}
 use Rattle.promises.specs.Fileable.{Fileable}
 use Rattle.promises.specs.Demand2.Effects.{Arrives}
@@ -33,29 +33,29 @@ use Rattle.promises.proofs.Readings.{read_from_the_bytes}
 abbrev AnIpOrFFh : ℕ → Type 0
 AnIpOrFFh r = ((1 ≤ r) × (r ≤ 16)) ⊎ (r ≡ 0xFF)
 
-first_at_in_range : (number : ℕ) (slots : List Slot) (p : Pulse) → 1 ≤ number → number + length slots ≤ 17
+first_at_in_range : (number : ℕ) (slots : List Ip) (p : Pulse) → 1 ≤ number → number + length slots ≤ 17
     → AnIpOrFFh (first_at number slots p)
 unfolding first_at
 first_at_in_range number [] p first few = inr refl
 first_at_in_range number (s ∷ slots) p first few =
-    either AnIpOrFFh (is_at s.ip p) (λ e. inl (first, omega arith))
+    either AnIpOrFFh (is_at s p) (λ e. inl (first, omega arith))
     (λ e. first_at_in_range (suc number) slots p (omega arith) (omega arith))
 
 module _ (n : Node) (g : Groups) (b : List ℕ) (a : Arrives n g b) (t : Typed n) (u : TypedTable g) (asks : message b ≡ 0x0C) where
   abbrev told : List ℕ
-  told = sent (turn_of n g b).reply
+  told = sent (reply_in (turn_of n g b))
 
   abbrev content : List ℕ
   content =
       n.drive.position.0 % 256 ∷ n.drive.position.0 / 256 ∷ (percent_of_pulse n.drive.position n.settings.travel).0 ∷ 0xFF
       ∷ reported_ip n.favourites n.drive.position ∷ []
 
-  is_reply_lem : IsReply n b 0x0D content (turn_of n g b).reply
+  is_reply_lem : IsReply n b 0x0D content (reply_in (turn_of n g b))
   is_reply_lem = ((answers n g b a t u).position_is_told asks).says
 
   -- Sixteen bytes go out, five of them DATA.
   long : 5 ≤ data_count told
-  long = omega (arith, length-take (turn_of n g b).reply.count (turn_of n g b).reply.bytes, is_reply_lem.length_told, is_reply_lem.thirty_one_bytes)
+  long = omega (arith, length-take (reply_in (turn_of n g b)).count (reply_in (turn_of n g b)).bytes, is_reply_lem.length_told, is_reply_lem.thirty_one_bytes)
 
   byte : (i : ℕ) → i < 5 → raw told (9 + i) ≡ get_or content i 0
   byte i h = sym (report_byte told long i h) ∙ ap (λ (d : List ℕ). get_or d i 0) is_reply_lem.its_data

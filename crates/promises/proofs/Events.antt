@@ -8,13 +8,11 @@ use mathlib.Core.List.{[], ◌∷◌}
 use borrow.Author.Tests.{le-leb, eq-eqb, ne_eqb, eqb-true, eqb-false, leb-true}
 use lib.Dec.{eqb}
 use Rattle.travel.specs.declared.Pulse.{Pulse}
-use Rattle.board.specs.Drive.{reached}
+use Rattle.board.specs.Drive.{reached, Motion}
 use Rattle.board.specs.Settings.{in_range}
 use Rattle.board.specs.Lock.{over_power_up}
 use Rattle.board.specs.Node.{sound}
 use Rattle.board.specs.Events.{set_up, after_pulse, after_blocked, after_cleared, after_power_up, blocks}
-use Rattle.board.specs.declared.drive.Motion.{Motion}
-use Rattle.board.specs.declared.drive.Motion.TheVariants.{Still, Running}
 use Rattle.board.specs.declared.events.After.{After}
 use Rattle.board.specs.declared.lock.Lock.{Lock}
 use Rattle.board.specs.declared.settings.Settings.{Settings}
@@ -29,31 +27,32 @@ use Rattle.promises.specs.BoardInRange.{SettingsInRange, BoardInRange}
 use Rattle.promises.specs.Demand2.Events.{Reached, done, motor_powered_up, Events}
 use Rattle.promises.specs.BoardParts.{fresh_node}
 use Rattle.promises.proofs.BoardInRange.{settings_exactly_when, in_range_lem, is_sound_lem}
+use Rattle.std.specs.Prelude.{Some, None}
 
-reached_so : (direction : ℕ) (target p : Pulse) → Reached direction target p → reached (Running target) direction p ≡ true
+reached_so : (direction : ℕ) (target p : Pulse) → Reached direction target p → reached (Some target) direction p ≡ true
 reached_so direction target p (inl (up, h)) = rw (eq-eqb direction 1 up, le-leb p.0 target.0 h)
 reached_so direction target p (inr (down, h)) = rw (ne_eqb direction 1 down, le-leb target.0 p.0 h)
 
-reached_is : (direction : ℕ) (target p : Pulse) → reached (Running target) direction p ≡ true → Reached direction target p
+reached_is : (direction : ℕ) (target p : Pulse) → reached (Some target) direction p ≡ true → Reached direction target p
 reached_is direction target p e =
     by_test (eqb direction 1)
     (λ t. inl (eqb-true direction 1 t, leb-true p.0 target.0 (rw t at e)))
     (λ t. inr (eqb-false direction 1 t, leb-true target.0 p.0 (rw t at e)))
 
-not_reached : (motion : Motion) (direction : ℕ) (p : Pulse) → ((target : Pulse) → motion ≡ Running target → ¬ Reached direction target p)
+not_reached : (motion : Motion) (direction : ℕ) (p : Pulse) → ((target : Pulse) → motion ≡ Some target → ¬ Reached direction target p)
     → reached motion direction p ≡ false
-not_reached Still direction p none = refl
-not_reached (Running target) direction p none =
-    by_test (reached (Running target) direction p) (λ t. absurd (none target refl (reached_is direction target p t))) (λ t. t)
+not_reached None direction p none = refl
+not_reached (Some target) direction p none =
+    by_test (reached (Some target) direction p) (λ t. absurd (none target refl (reached_is direction target p t))) (λ t. t)
 
 module _ (n : Node) (p : Pulse) (s : sound n ≡ true) (within : p.0 ≤ n.settings.travel.0) where
-  stops : (target : Pulse) → n.drive.motion ≡ Running target → Reached n.drive.direction target p
-      → after_pulse n p ≡ done (with_drive n (drive p Still n.drive.direction 0 0 n.drive.blocked))
+  stops : (target : Pulse) → n.drive.motion ≡ Some target → Reached n.drive.direction target p
+      → after_pulse n p ≡ done (with_drive n (drive p None n.drive.direction 0 0 n.drive.blocked))
   stops target runs there =
       let r : reached n.drive.motion n.drive.direction p ≡ true = rw runs (reached_so n.drive.direction target p there) in
       pulse_at n 2 p (s, (within, tt)) ∙ rw r
 
-  goes_on_lem : ((target : Pulse) → n.drive.motion ≡ Running target → ¬ Reached n.drive.direction target p)
+  goes_on_lem : ((target : Pulse) → n.drive.motion ≡ Some target → ¬ Reached n.drive.direction target p)
       → after_pulse n p
       ≡ done (with_drive n (drive p n.drive.motion n.drive.direction n.drive.source n.drive.cause n.drive.blocked))
   goes_on_lem none = pulse_at n 2 p (s, (within, tt)) ∙ rw (not_reached n.drive.motion n.drive.direction p none)

@@ -10,7 +10,6 @@ use Rattle.frame.specs.Reading.{reading_of}
 use Rattle.board.specs.Favourites.{ips_within}
 use Rattle.meaning.specs.Every.{every}
 use Rattle.board.specs.Node.{sound}
-use Rattle.board.specs.declared.favourites.Ip.TheVariants.{Unset}
 use Rattle.promises.specs.Numbers.{read_number}
 use Rattle.promises.specs.Wire.{data_of}
 use Rattle.promises.specs.BoardParts.{ip_of, no_ips, empty_table}
@@ -22,6 +21,7 @@ use Rattle.promises.specs.Demand2.Example.{new_board, move_down, Example}
 use Rattle.promises.proofs.BoardInRange.{in_range_lem}
 use Rattle.promises.proofs.Frames.{rules_exactly_when}
 use Rattle.promises.proofs.Effects.{effects}
+use Rattle.std.specs.Prelude.{None}
 
 board_is_sound : sound new_board ≡ true
 unfolding ips_within every
@@ -55,7 +55,7 @@ accepted =
     (passes (λ (no_move : ¬ IsAMove 0 0). no_move (inl refl))
     (passes (λ (locked : false ≡ true). false≢true locked)
     (passes (λ (blocked : false ≡ true). false≢true blocked)
-    (passes (λ (to_an_ip : (◌≡◌ {A = ℕ} 0 2) × (ip_of no_ips 0 ≡ Unset)). omega (arith, to_an_ip.0))
+    (passes (λ (to_an_ip : (◌≡◌ {A = ℕ} 0 2) × (ip_of no_ips 0 ≡ None)). omega (arith, to_an_ip.0))
     (none_applies refl)))))
 
 pub example : Example

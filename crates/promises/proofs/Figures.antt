@@ -11,21 +11,8 @@ use Rattle.board.specs.{Favourites.{first_at, ips_within}, Groups.{in_table}}
 use Rattle.messages.specs.{Motor.{position_row}, Table.{outcome_of}}
 use Rattle.node.specs.{Replies.{reply_to}, Meant.{meant}, Frames.{turn_of}}
 use Rattle.runs.specs.{Ordered.{looked_up, placed}, Places.{filled}}
-use Rattle.motors.specs.{
-  Order.{before, same},
-  Motor.{is_node, is_reading, unread_part, reading_part, right_beside_line, right_of, blank_of},
-  Register.{in_order, all_blank, sound_of, found},
-  Report.{reported},
-  Filing.{entered, kept_of, filing_of, filed_of},
-  declared.answer.Answer.TheVariants.{Count},
-}
-use Rattle.form.specs.{
-  Layout.{in_turn, form_of, entry_behind, everywhere, listed},
-  FormOne.{reading_right, motor_of_reading},
-  Reading.{checked, read_of},
-  Writing.{written_of, buffer_after as form_written},
-  declared.writing.Written.TheVariants.{Bytes as Written},
-}
+use Rattle.motors.specs.{Order.{before, same}, Motor.{is_node, is_reading, unread_part, reading_part, right_beside_line, right_of, blank_of}, Register.{in_order, all_blank, sound_of, found}, Report.{reported}, Filing.{entered, kept_of, filing_of, filed_of}}
+use Rattle.form.specs.{Layout.{in_turn, form_of, entry_behind, everywhere, listed}, FormOne.{reading_right, motor_of_reading}, Reading.{checked, read_of}, Writing.{written_of, buffer_after as form_written}}
 use Rattle.promises.specs.RegisterInRange.{no_motors}
 use Rattle.promises.specs.Figures.{
   P1,
@@ -48,6 +35,7 @@ use Rattle.promises.specs.Figures.{
   figures,
   AllHold,
 }
+use Rattle.std.specs.Prelude.{Ok}
 
 p1 : P1
 unfolding writing_of
@@ -93,7 +81,7 @@ sound : sound_of two_motors 2 ≡ true
 unfolding in_order all_blank sound_of before is_node is_reading unread_part reading_part right_of right_beside_line blank_of
 sound = refl
 
-file_length : written_of two_motors 2 25 ≡ Written 25
+file_length : written_of two_motors 2 25 ≡ Ok 25
 unfolding written_of
 file_length = rw sound
 
@@ -101,7 +89,7 @@ file_written : form_written two_motors 2 (replicate 25 0) ≡ whole_file
 unfolding in_turn form_of
 file_written = rw file_length
 
-file_read : read_of no_motors whole_file ≡ record { motors = two_motors; answer = Count 2 }
+file_read : read_of no_motors whole_file ≡ record { motors = two_motors; answer = Ok 2 }
 unfolding entry_behind everywhere listed reading_right motor_of_reading checked filled before is_node is_reading
 file_read = refl
 
@@ -117,7 +105,7 @@ empty_is_sound : sound_of no_motors 0 ≡ true
 unfolding in_order all_blank sound_of unread_part blank_of
 empty_is_sound = refl
 
-filed : filed_of no_motors 0 0 position_told ≡ record { motors = one_motor; answer = Count 1 }
+filed : filed_of no_motors 0 0 position_told ≡ record { motors = one_motor; answer = Ok 1 }
 unfolding filing_of reading_of reported kept_of entered placed filled
 filed = rw empty_is_sound
 

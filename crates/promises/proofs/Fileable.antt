@@ -15,15 +15,12 @@ use Rattle.frame.specs.Reading.{IsFrame}
 use Rattle.frame.proofs.Frames.{frame_is_read}
 use Rattle.motors.specs.Motor.{a_reading}
 use Rattle.motors.specs.Register.{held, sound_of, found}
-use Rattle.motors.specs.Report.{percent_in, ip_in, report_table, shown_by, reported, report_by, report_of}
+use Rattle.motors.specs.Report.{percent_in, ip_in, report_table, shown_by, reported, report_by, report_of, Report}
 use Rattle.runs.specs.Ordered.{is_some, without}
 use Rattle.motors.specs.Order.{by_line_and_node}
 use Rattle.motors.specs.Filing.{keeping, refusing, entered, reported_by, filing_of, filed_of, strike_table, struck_of}
 use Rattle.motors.specs.declared.motor.Motor.{Motor}
-use Rattle.motors.specs.declared.answer.Answer.TheVariants.{Count}
 use Rattle.motors.specs.declared.answer.Next.{Next}
-use Rattle.motors.specs.declared.report.Report.{Report}
-use Rattle.motors.specs.declared.report.Report.TheVariants.{Seen, Refused}
 use Rattle.promises.proofs.RegisterInRange.{sound_exactly_when}
 use Rattle.motors.proofs.Rows.{filed_by, as_reported, struck_by}
 use Rattle.motors.proofs.Shown.{seen}
@@ -33,6 +30,7 @@ use Rattle.promises.specs.Fileable.{IsHeld, Fileable, Reports, Strikeable}
 use Rattle.promises.proofs.Frames.{to_rules, from_rules}
 use Rattle.promises.proofs.Held.{found_some}
 use Rattle.promises.proofs.ReportBytes.{report_byte}
+use Rattle.std.specs.Prelude.{Ok, Err}
 
 module _ (run : List Motor) (count line : ℕ) (b : List ℕ) where
   is_held : IsHeld run count line (source b).0 ↔ (is_some (found run count line (source b).0) ≡ true)
@@ -42,13 +40,13 @@ module _ (run : List Motor) (count line : ℕ) (b : List ℕ) where
   HasAPlace = (is_some (found run count line (source b).0) ≡ true) ⊎ (count < 256)
 
   abbrev IsFiled : Type 0
-  IsFiled = (n : ℕ) × ((filed_of run count line b).answer ≡ Count n)
+  IsFiled = (n : ℕ) × ((filed_of run count line b).answer ≡ Ok n)
 
   as_read : IsFrame b → report_of line b ≡ reported line (header_of b) (data_count b) (data_of b)
   as_read f = ap (report_by line b) (frame_is_read b f)
 
   -- The motor that a frame shows is its sender, on its line.
-  same_motor : (m : Motor) → report_of line b ≡ Seen m → (m.line ≡ line) × (m.node ≡ (source b).0)
+  same_motor : (m : Motor) → report_of line b ≡ Ok m → (m.line ≡ line) × (m.node ≡ (source b).0)
   same_motor m e =
       let s = (seen line b m e).1 in
       (s.on_its_line, s.of_the_sender)
@@ -88,11 +86,11 @@ module _ (run : List Motor) (count line : ℕ) (b : List ℕ) where
           let reading : AReading = rw (percent_byte long, ip_byte long) (r.percent_to_100, ⊎_elim inr inl r.ip_1_to_16_or_ffh) in
           (inr r.is_0dh, (inr (long, reading), tt))
 
-  shows : Fileable run count line b → (m : Motor) × (report_of line b ≡ Seen m)
+  shows : Fileable run count line b → (m : Motor) × (report_of line b ≡ Ok m)
   unfolding reported
   shows f =
       let m = shown_by line (header_of b) (data_of b) in
-      (m, as_read (from_rules f.is_frame) ∙ no_row_applies table (Seen m) (no_row f))
+      (m, as_read (from_rules f.is_frame) ∙ no_row_applies table (Ok m) (no_row f))
 
   fileable_is_filed : Fileable run count line b → IsFiled
   fileable_is_filed f =
@@ -100,27 +98,27 @@ module _ (run : List Motor) (count line : ℕ) (b : List ℕ) where
       let (m, e) = shows f in
       let (l, k) = same_motor m e in
       let (n, t) = (taken_exactly_when run count m ok).0 (rw (l, k) (⊎_elim (λ h. inl (is_held.0 h)) inr f.has_a_place)) in
-      (n, answer_of (Seen m) ok e ∙ t)
+      (n, answer_of (Ok m) ok e ∙ t)
 
   -- ---- what is filed was fileable: each row that did not apply leaves its fact
   abbrev Asked : Report → Type 0
-  Asked (Seen m) = Passed table
-  Asked (Refused q) = Unit {0}
+  Asked (Ok m) = Passed table
+  Asked (Err q) = Unit {0}
 
   asked : Asked (reported line (header_of b) (data_count b) (data_of b))
   unfolding reported
-  asked = of_decided Asked table (Seen (shown_by line (header_of b) (data_of b))) (search) (λ facts. facts)
+  asked = of_decided Asked table (Ok (shown_by line (header_of b) (data_of b))) (search) (λ facts. facts)
 
   abbrev NoRowApplied : Type 0
   NoRowApplied = (sound_of run count ≡ true) × (IsFrame b × (HasAPlace × Passed table))
 
   by_report : sound_of run count ≡ true → (x : Report) → report_of line b ≡ x → IsFiled → NoRowApplied
-  by_report ok (Seen m) e (n, a) =
+  by_report ok (Ok m) e (n, a) =
       let f = (seen line b m e).0 in
       let (l, k) = same_motor m e in
-      let place = (taken_exactly_when run count m ok).1 (n, sym (answer_of (Seen m) ok e) ∙ a) in
+      let place = (taken_exactly_when run count m ok).1 (n, sym (answer_of (Ok m) ok e) ∙ a) in
       (ok, (f, (rw (l, k) at place, subst Asked (sym (as_read f) ∙ e) asked)))
-  by_report ok (Refused q) e (n, a) = absurd (never_both _ n q a (answer_of (Refused q) ok e))
+  by_report ok (Err q) e (n, a) = absurd (never_both _ n q a (answer_of (Err q) ok e))
 
   no_row_applied : IsFiled → NoRowApplied
   no_row_applied (n, a) =
@@ -164,7 +162,7 @@ module _ (run : List Motor) (count line : ℕ) (b : List ℕ) where
 -- ---- striking out
 module _ (run : List Motor) (count line node : ℕ) where
   abbrev IsStruck : Next → Type 0
-  IsStruck x = (n : ℕ) × (x.answer ≡ Count n)
+  IsStruck x = (n : ℕ) × (x.answer ≡ Ok n)
 
   strikeable_is_struck : Strikeable run count line node → IsStruck (struck_of run count line node)
   strikeable_is_struck s =

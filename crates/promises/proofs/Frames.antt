@@ -9,12 +9,7 @@ use borrow.Author.Tests.{leb-true, le-leb}
 use lib.ListN.{length, get_or, take, drop, length-map, get_or-append, get_or-map}
 use lib.Seq.{get_or-take, get_or-drop, get_or-append_seam, get_or-append-add, take_at, take-take}
 use Rattle.meaning.specs.Lists.{get_d_any}
-use Rattle.frame.specs.{
-  Layout.{header_of, data_count},
-  Reading.{IsFrame, reading_of},
-  Writing.{raw_header, Writable, writing_of, buffer_after},
-  declared.{header.Header.{Header}, reading.Reading.TheVariants.{Frame}},
-}
+use Rattle.frame.specs.{Layout.{header_of, data_count}, Reading.{Reading, IsFrame, reading_of}, Writing.{raw_header, Writable, writing_of, buffer_after}, declared.{header.Header.{Header}}}
 use Rattle.frame.proofs.Frames.{frame_is_read, frame_exactly_when}
 use Rattle.frame.proofs.Content.{length_data, data_at}
 use Rattle.frame.proofs.Buffers.{
@@ -30,6 +25,8 @@ use Rattle.frame.proofs.Buffers.{
 use Rattle.promises.specs.Wire.{Bytes, inverted, raw, data_of, sum, FrameRules}
 use Rattle.promises.specs.Numbers.{read_number, write_number}
 use Rattle.promises.specs.Demand2.Frames.{FrameSays, CanBeWritten, AddressAt, FrameAt, Frames}
+use Rattle.std.specs.Prelude.{Ok}
+use Rattle.std.specs.Result.{result_unwrap_or}
 
 -- ---- what is read
 pub to_rules : {b : List ℕ} → IsFrame b → FrameRules b
@@ -69,12 +66,12 @@ says b =
       its_count_of_data = refl;
     }
 
-written_again : (b : List ℕ) → Bytes b → (h : Header) (count : ℕ) → reading_of b ≡ Frame h count
+written_again : (b : List ℕ) → Bytes b → (h : Header) (count : ℕ) → reading_of b ≡ Ok (h, count)
     → (buffer : List ℕ) (place : ℕ) → place + length b ≤ length buffer
     → take (length b) (drop place (buffer_after buffer place h (data_of b))) ≡ b
 written_again b bytes h count e buffer place room =
     let f : IsFrame b = (frame_exactly_when b).1 (ap read_number e) in
-    let same : header_of b ≡ h = cc (frame_is_read b f) in
+    let same : header_of b ≡ h = ap (λ (r : Reading). (result_unwrap_or r (h, count)).0) (sym (frame_is_read b f) ∙ e) in
     rw (← same) (written_of_read b f (λ i within. bytes i) buffer place room)
 
 -- ---- what is written

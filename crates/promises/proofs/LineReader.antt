@@ -13,18 +13,18 @@ use lib.Seq.{length-take-le}
 use Rattle.meaning.specs.Cases.{by_test}
 use Rattle.meaning.specs.Choice.{either}
 use Rattle.frame.specs.Layout.{header_of, data_count}
-use Rattle.frame.specs.Reading.{reading_of, IsFrame, refused_by}
+use Rattle.frame.specs.Reading.{reading_of, IsFrame, refused_by, Reading}
 use Rattle.frame.specs.declared.header.Header.{Header}
-use Rattle.frame.specs.declared.reading.Reading.{Reading}
 use Rattle.frame.proofs.Frames.{frame_exactly_when, frame_is_read}
 use Rattle.line.specs.Reader.{is_sound, fresh, begun, ending_silence, answered_by, ended_with, step_of, close_of, goes_on, run_of, ran_of}
 use Rattle.line.specs.declared.reader.Reader.{Reader}
-use Rattle.line.specs.declared.reader.Answer.TheVariants.{Frame}
 use Rattle.line.specs.declared.reader.Ran.{Ran}
 use Rattle.line.proofs.Steps.{ended_empty, ended_too_long, ended_read, goes_on_as, step-ends, step_joins, close_ends}
 use Rattle.promises.specs.ReaderInRange.{ReaderInRange, open_bytes, begun_with, without_answer}
 use Rattle.promises.specs.Demand2.LineReader.{HandedOut, Reads, NoBytesWithoutAFrame, LineReader}
 use Rattle.promises.proofs.ReaderInRange.{is_sound_lem, stays_in_range, kept_is, kept_with}
+use Rattle.std.specs.Prelude.{Ok, Err, Some}
+use Rattle.std.specs.Result.{result_unwrap_or}
 
 -- ---- of a reader in range that keeps 31 bytes
 module _ (r : Reader) (i : ReaderInRange r) (size : length r.kept ≡ 31) where
@@ -44,15 +44,15 @@ module _ (r : Reader) (i : ReaderInRange r) (size : length r.kept ≡ 31) where
   begins : (byte silence : ℕ) → 30 ≤ silence → (step_of r byte silence).reader ≡ begun_with byte
   begins byte silence h = rw (step-ends r byte silence (is_sound_lem r i) h) (goes_on_as r (begun byte))
 
-  frame_handed : (next : Reader) (h : Header) (n : ℕ) → r.count ≤ 31 → reading_of (open_bytes r) ≡ Reading.Frame h n
-      → ((ended_with r next).answer ≡ Frame h n)
+  frame_handed : (next : Reader) (h : Header) (n : ℕ) → r.count ≤ 31 → reading_of (open_bytes r) ≡ Ok (h, n)
+      → ((ended_with r next).answer ≡ Ok (Some (h, n)))
       × ((n ≡ r.count - 11) × ((ended_with r next).bundle ≡ open_bytes r ++ replicate (31 - r.count) 0))
   frame_handed next h n few e =
       let f : IsFrame (open_bytes r) = (frame_exactly_when (open_bytes r)).1 (ap refused_by e) in
       let many = length-take-le r.count r.kept (omega arith) in
       let some : r.count ≢ 0 = omega (arith, f.from_11_bytes) in
-      let same : Reading.Frame (header_of (open_bytes r)) (data_count (open_bytes r)) ≡ Reading.Frame h n = sym (frame_is_read (open_bytes r) f) ∙ e in
-      let data_count_lem : data_count (open_bytes r) ≡ n = cc in
+      let same : Ok (header_of (open_bytes r), data_count (open_bytes r)) ≡ Ok (h, n) = sym (frame_is_read (open_bytes r) f) ∙ e in
+      let data_count_lem : data_count (open_bytes r) ≡ n = ap (λ (x : Reading). (result_unwrap_or x (h, n)).1) same in
       rw (ended_read r next some few, e) (refl, (omega arith, kept_is r i size))
 
   handed : (next : Reader) → HandedOut r (ended_with r next)
@@ -79,8 +79,8 @@ module _ (r : Reader) (i : ReaderInRange r) (size : length r.kept ≡ 31) where
 
 -- ---- without a frame, no byte is handed out
 answered_none : (x : Reading) (kept : List ℕ) (next : Reader) → NoBytesWithoutAFrame (answered_by x kept next)
-answered_none (Reading.Frame h n) kept next none = absurd (none h n refl)
-answered_none (Reading.Refused q) kept next none = refl
+answered_none (Ok (h, n)) kept next none = absurd (none h n refl)
+answered_none (Err q) kept next none = refl
 
 ended_none : (r next : Reader) → NoBytesWithoutAFrame (ended_with r next)
 unfolding ended_with

@@ -4,40 +4,22 @@ use Prim.Native.Nat.{ℕ, ◌+◌, ◌<◌}
 use native.Mathlib.Omega.{arith}
 use mathlib.Core.Path.{◌≡◌, refl, ◌∙◌, sym, ap}
 use mathlib.Core.Logic.{◌≢◌, ◌↔◌}
-use mathlib.Core.Bool.{true, false}
+use mathlib.Core.Bool.{true}
 use mathlib.Core.List.{List, [], ◌∷◌, ◌++◌}
 use borrow.Author.Tests.{eqb-true, eqb-false}
 use lib.Dec.{eqb}
 use lib.ListN.{length}
 use Rattle.meaning.specs.Cases.{by_test}
 use Rattle.meaning.specs.Tests.{passed_by}
-use Rattle.frame.specs.{
-  Layout.{header_of, data_count, data_of, message},
-  Reading.{bundle_table, reading_of},
-  Writing.{frame_table, room_table, writing_with},
-  declared.reading.Reading.{Reading},
-  declared.writing.Writing.{Writing},
-}
+use Rattle.frame.specs.{Layout.{header_of, data_count, data_of, message}, Reading.{bundle_table, reading_of, Reading}, Writing.{frame_table, room_table, writing_with}}
 use Rattle.frame.proofs.Content as content
-use Rattle.rts.specs.{
-  Envelope.{envelope_of},
-  Spelling.{spelled_by},
-  Fields.{four_of},
-  Table.{number_of, data_of as content_of, in_range},
-  Reading.{check_table, checked_by, listed, received_by, received_of},
-  Writing.{header_of as message_header, field_row, written_of},
-  declared.{
-    envelope.Envelope.{Envelope},
-    message.Message.{Message},
-    message.Spelled.{Spelled},
-    reading.Received.{Received},
-  },
-}
+use Rattle.rts.specs.{Envelope.{envelope_of}, Spelling.{spelled_by, Spelled}, Fields.{four_of}, Table.{number_of, data_of as content_of, in_range}, Reading.{check_table, checked_by, listed, received_by, received_of}, Writing.{header_of as message_header, field_row, written_of}, declared.{envelope.Envelope.{Envelope}, message.Message.{Message}}}
 use Rattle.rts.proofs.Lines.{at_most_four, no_reserved_number}
 use Rattle.rts.proofs.Spelling.{spelled_number, spelled_data, one_message, one_count, unlisted}
 use Rattle.promises.specs.Numbers.{write_number, received_number}
 use Rattle.promises.specs.Rows.{◌when◌, FirstOf, applies, passes, typed_rows, receive_rows, send_rows}
 use Rattle.promises.proofs.First.{first, first_then, same_number, at_the_end, in_other_words, as_it_is, behind, never_applies}
+use Rattle.std.specs.Prelude.{Ok, Some, None}
 
 -- ---- read
 module _ (b : List ℕ) where
@@ -53,7 +35,7 @@ module _ (b : List ℕ) where
   abbrev Said : Message → Type 0
   Said m = (number_of m ≡ message b) × ((content_of m ≡ data_of b) × ((in_range m).holds ≡ true))
 
-  module _ (m : Message) (spelled : spelling ≡ Spelled.Message m) where
+  module _ (m : Message) (spelled : spelling ≡ Some m) where
     number : number_of m ≡ message b
     number = spelled_number (message b) (data_of b) m spelled
 
@@ -85,22 +67,22 @@ module _ (b : List ℕ) where
         (received_number (checked_by envelope (data_count b) m))
     checked =
         same_number (in_other_words fits λ n. in_other_words (said (counted n)) λ k. at_the_end)
-        (first received_number (check_table (data_count b) m) (Received.Message envelope m) refl)
+        (first received_number (check_table (data_count b) m) (Ok (envelope, m)) refl)
 
   abbrev Listed : Type 0
   Listed = (m : Message) × (number_of m ≡ message b)
 
   spelled_rows : (s : Spelled) → spelling ≡ s → FirstOf (typed_rows b) (received_number (listed envelope (data_count b) s))
-  spelled_rows Spelled.Unlisted none =
+  spelled_rows None none =
       let no_such : ¬ Listed = λ (m, e). unlisted (message b) (four_of (data_of b)) none m e in
       applies no_such
-  spelled_rows (Spelled.Message m) spelled =
+  spelled_rows (Some m) spelled =
       passes (λ (none : ¬ Listed). none (m, number m spelled)) (checked m spelled)
 
   pub read_message : FirstOf (receive_rows b) (received_number (received_of b))
   unfolding received_of reading_of
   read_message =
-      first_then (λ (x : Reading). received_number (received_by b x)) (bundle_table b) (Reading.Frame (header_of b) (data_count b))
+      first_then (λ (x : Reading). received_number (received_by b x)) (bundle_table b) (Ok (header_of b, data_count b))
       (typed_rows b) (λ facts. spelled_rows spelling refl)
 
 -- ---- written
@@ -113,7 +95,7 @@ module _ (buffer : List ℕ) (place : ℕ) (e : Envelope) (m : Message) where
       (never_applies named (never_applies few_enough rows)))
       (first write_number
       (frame_table (message_header e m) (content_of m) ++ field_row m ∷ room_table (length buffer) place (content_of m))
-      (Writing.Next (place + (11 + length (content_of m)))) refl)
+      (Ok (place + (11 + length (content_of m)))) refl)
     where
       few_enough : ¬ (20 < length (content_of m))
       few_enough over = omega (arith, at_most_four m)

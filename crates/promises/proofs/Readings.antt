@@ -7,21 +7,16 @@ use mathlib.Core.List.{List}
 use mathlib.Core.Option.{none, some}
 use lib.ListN.{get_or}
 use Rattle.frame.specs.Layout.{message, source, data_of, data_count}
-use Rattle.motors.specs.{
-  Motor.{unread, with_reading},
-  Register.{found},
-  Report.{pulse_in, percent_in, ip_in},
-  Filing.{filed_of},
-  declared.{motor.Motor.{Motor}, answer.Answer.TheVariants.{Count}},
-}
+use Rattle.motors.specs.{Motor.{unread, with_reading}, Register.{found}, Report.{pulse_in, percent_in, ip_in}, Filing.{filed_of}, declared.{motor.Motor.{Motor}}}
 use Rattle.motors.proofs.FilingLaws.{a_position_report_is_kept, a_motor_that_names_itself_is_held}
 use Rattle.promises.specs.RegisterInRange.{Holds}
 use Rattle.promises.specs.Wire.{raw}
 use Rattle.promises.proofs.Fileable.{a_report_filed_is_long}
 use Rattle.promises.proofs.ReportBytes.{report_byte}
+use Rattle.std.specs.Prelude.{Ok}
 
 -- The DATA of a 0Dh that is filed, in the bundle's own bytes.
-module _ (run : List Motor) (count line : ℕ) (b : List ℕ) (n : ℕ) (e : (filed_of run count line b).answer ≡ Count n) (position : message b ≡ 0x0D) where
+module _ (run : List Motor) (count line : ℕ) (b : List ℕ) (n : ℕ) (e : (filed_of run count line b).answer ≡ Ok n) (position : message b ≡ 0x0D) where
   long : 5 ≤ data_count b
   long = a_report_filed_is_long run count line b (n, e) position
 
@@ -46,7 +41,7 @@ module _ (run : List Motor) (count line : ℕ) (b : List ℕ) (n : ℕ) (e : (fi
   )
 
 -- A motor that names itself and was not held has no reading.
-pub named : (run : List Motor) (count line : ℕ) (b : List ℕ) (n : ℕ) → (filed_of run count line b).answer ≡ Count n
+pub named : (run : List Motor) (count line : ℕ) (b : List ℕ) (n : ℕ) → (filed_of run count line b).answer ≡ Ok n
     → message b ≡ 0x60 → found run count line (source b).0 ≡ none
     → (m : Motor) × ((found (filed_of run count line b).motors n line (source b).0 ≡ some m) × Holds m line (source b).0 0 0 0 0)
 named run count line b n e m new = (

@@ -13,7 +13,6 @@ use Rattle.frame.specs.Layout.{source}
 use Rattle.motors.specs.Register.{found}
 use Rattle.motors.specs.Filing.{filed_of, struck_of}
 use Rattle.motors.specs.declared.motor.Motor.{Motor}
-use Rattle.motors.specs.declared.answer.Answer.TheVariants.{Count}
 use Rattle.motors.proofs.Entered.{more}
 use Rattle.motors.proofs.FilingLaws.{
   a_60h_changes_no_reading,
@@ -32,6 +31,7 @@ use Rattle.promises.proofs.Held.{found_some}
 use Rattle.promises.proofs.RegisterInRange.{zeros_hold, row_19, so_sound, found_exactly_when}
 use Rattle.promises.proofs.Readings.{read_from_the_bytes, named}
 use Rattle.promises.proofs.Fileable.{filed_exactly_when, struck_exactly_when}
+use Rattle.std.specs.Prelude.{Ok}
 
 no_motors_lem : RegisterInRange no_motors 0
 no_motors_lem =
@@ -52,7 +52,7 @@ counted run count r place h = (within, λ k e. omega (arith, e, (r.every_record_
         by_test (ltb place count) (ltb-true place count)
         (λ t. absurd (some (r.every_other_place_is_zeros place (ltb-false place count t) h).the_node_id))
 
-filed : (run : List Motor) (count line : ℕ) (b : List ℕ) (n : ℕ) → (filed_of run count line b).answer ≡ Count n
+filed : (run : List Motor) (count line : ℕ) (b : List ℕ) (n : ℕ) → (filed_of run count line b).answer ≡ Ok n
     → Filed run count line b (filed_of run count line b).motors n
 filed run count line b n e =
     let before = found run count line (source b).0 in
@@ -71,7 +71,7 @@ filed run count line b n e =
       a_new_motor_is_one_more = λ new. omega (arith, number, ap more new);
     }
 
-struck_out : (run : List Motor) (count line node n : ℕ) → (struck_of run count line node).answer ≡ Count n
+struck_out : (run : List Motor) (count line node n : ℕ) → (struck_of run count line node).answer ≡ Ok n
     → StruckOut run count line node (struck_of run count line node).motors n
 struck_out run count line node n e =
     record {

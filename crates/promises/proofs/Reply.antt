@@ -19,7 +19,7 @@ use Rattle.node.specs.declared.turn.Turn.{Turn}
 use Rattle.node.proofs.Replied.{Answerable, a_reply_is_a_frame}
 use Rattle.promises.specs.Wire.{raw}
 use Rattle.promises.specs.BoardInRange.{BoardInRange}
-use Rattle.promises.specs.Reply.{sent, IsReply, Proper, Untouched}
+use Rattle.promises.specs.Reply.{sent, IsReply, Proper, Untouched, reply_in}
 
 module _ (n : Node) (b : List ℕ) where
   -- A header and DATA that are read from the bytes, told by the bytes.
@@ -75,7 +75,7 @@ module _ (n : Node) (b : List ℕ) where
   pub proper_by_its_bytes : (t : Turn) → node.Proper n.settings (header_of b) t → Proper n b t
   proper_by_its_bytes t p =
       record {
-        a_frame_to_the_asker = λ e. some_reply t.reply (p.a_frame_to_the_asker e);
+        a_frame_to_the_asker = λ e. some_reply (reply_in t) (p.a_frame_to_the_asker (reply_in t) e);
         no_reply_in_silence = p.no_reply_in_silence;
         no_reply_when_refused = p.no_reply_when_refused;
       }
@@ -85,6 +85,6 @@ untouched n t u =
     record {
       node_kept = u.unchanged.node_kept;
       table_kept = u.unchanged.table_kept;
-      not_answered = u.not_answered;
+      not_answered = u.not_answered (reply_in t);
       nothing_said = u.nothing_said;
     }

@@ -13,11 +13,9 @@ use borrow.Author.Tests.{leb-true, leb-false, ltb-true, ltb-false, eqb-true, eqb
 use Rattle.meaning.specs.Choice.{either}
 use Rattle.meaning.specs.Tests.{◌below◌, ◌is_not◌, unless}
 use Rattle.frame.specs.Layout.{message, source, header_of, data_of, data_count}
-use Rattle.frame.specs.Reading.{bundle_table, reading_of}
+use Rattle.frame.specs.Reading.{bundle_table, reading_of, Reading}
 use Rattle.frame.specs.Writing.{writer_table, writing_of}
 use Rattle.frame.specs.declared.header.Header.{Header}
-use Rattle.frame.specs.declared.reading.Reading.{Reading}
-use Rattle.frame.specs.declared.writing.Writing.{Writing}
 use Rattle.line.specs.Reader.{is_sound, ending_silence, begun, fresh, answered_by, ended_with, step_of, close_of, goes_on, run_of, ran_of}
 use Rattle.line.specs.declared.reader.Reader.{Reader}
 use Rattle.line.specs.declared.reader.Stepped.{Stepped}
@@ -38,16 +36,12 @@ use Rattle.node.specs.Frames.{turn_of, turn_by}
 use Rattle.node.specs.Meant.{meant}
 use Rattle.meaning.specs.Membership.{IsOneOf, as_first}
 use Rattle.motors.specs.Register.{held, sound_of, found}
-use Rattle.motors.specs.Report.{report_table, shown_by, reported, report_by, report_of}
+use Rattle.motors.specs.Report.{report_table, shown_by, reported, report_by, report_of, Report}
 use Rattle.runs.specs.Ordered.{without}
 use Rattle.motors.specs.Order.{by_line_and_node}
 use Rattle.motors.specs.Filing.{keeping, entered, keep_table, kept_of, reported_by, file_table, filing_of, filed_of, strike_table, struck_of}
 use Rattle.motors.specs.declared.motor.Motor.{Motor}
 use Rattle.motors.specs.declared.answer.Next.{Next}
-use Rattle.motors.specs.declared.answer.Answer.{Answer}
-use Rattle.motors.specs.declared.answer.Answer.TheVariants.{Count}
-use Rattle.motors.specs.declared.report.Report.{Report}
-use Rattle.motors.specs.declared.report.Report.TheVariants.{Seen}
 use Rattle.promises.specs.ReaderInRange.{ReaderInRange}
 use Rattle.promises.proofs.ReaderInRange.{in_range_exactly_when, is_sound_lem, stays_in_range}
 use Rattle.promises.specs.BoardInRange.{SettingsInRange, BoardInRange}
@@ -64,7 +58,6 @@ use Rattle.form.specs.FormOne.{form_one}
 use Rattle.form.specs.Reading.{checked, read_form_table, check_of, read_of}
 use Rattle.form.proofs.InPlace.{the_check_is_the_answer}
 use Rattle.form.specs.Writing.{write_form_table, written_of}
-use Rattle.form.specs.declared.writing.Written.{Written}
 use Rattle.promises.specs.Numbers.{read_number, write_number, line_number, event_number, turn_number, register_number, form_number, no_frame}
 use Rattle.promises.specs.Rows.{
   ◌when◌,
@@ -103,16 +96,18 @@ use Rattle.promises.proofs.First.{
   stands_at,
   standing_is_one,
 }
+use Rattle.motors.specs.Answer.{Answer}
+use Rattle.std.specs.Prelude.{Ok, Err}
 
 -- ---- frames
 read : (b : List ℕ) → FirstOf (bundle_rows b) (read_number (reading_of b))
 unfolding reading_of
-read b = first read_number (bundle_table b) (Reading.Frame (header_of b) (data_count b)) refl
+read b = first read_number (bundle_table b) (Ok (header_of b, data_count b)) refl
 
 write : (buffer : List ℕ) (place : ℕ) (h : Header) (d : List ℕ)
     → FirstOf (writer_rows (length buffer) place h d) (write_number (writing_of (length buffer) place h d))
 unfolding writing_of
-write buffer place h d = first write_number (writer_table (length buffer) place h d) (Writing.Next (place + (11 + length d))) refl
+write buffer place h d = first write_number (writer_table (length buffer) place h d) (Ok (place + (11 + length d))) refl
 
 -- ---- the line reader
 abbrev told : Stepped → ℕ
@@ -122,8 +117,8 @@ abbrev told_by_run : Ran → ℕ
 told_by_run x = told x.stepped
 
 told_as_read : (x : Reading) (kept : List ℕ) (next : Reader) → told (answered_by x kept next) ≡ read_number x
-told_as_read (Reading.Frame h count) kept next = refl
-told_as_read (Reading.Refused q) kept next = refl
+told_as_read (Ok (h, count)) kept next = refl
+told_as_read (Err q) kept next = refl
 
 ended : (r next : Reader) → FirstOf (open_rows r) (told (ended_with r next))
 ended r next = go (eqb r.count 0) refl (ltb 31 r.count) refl
@@ -236,10 +231,10 @@ module _ (n : Node) where
   answered_by_0 h o = either (λ (t : Turn). turned t ≡ 0) (is_said o.say h.ack) (λ e. refl) (λ e. refl)
 
   turned_as_read : (g : Groups) (b : List ℕ) (x : Reading) → turned (turn_by n g b x) ≡ read_number x
-  turned_as_read g b (Reading.Frame h count) =
+  turned_as_read g b (Ok (h, count)) =
       either (λ (t : Turn). turned t ≡ 0) (meant n.settings g h) (λ e. answered_by_0 h (outcome_of n g h.source h.message (data_of b)))
       (λ e. refl)
-  turned_as_read g b (Reading.Refused q) = refl
+  turned_as_read g b (Err q) = refl
 
   on_frame : (g : Groups) (b : List ℕ) → FirstOf (33 when (¬ BoardInRange n) ∷ bundle_rows b) (turned (turn_of n g b))
   unfolding turn_of
@@ -282,7 +277,7 @@ module _ (run : List Motor) (count line : ℕ) (b : List ℕ) where
       let whole = beyond_exactly_when run count shown ok in
       (λ h. (sym same ∙ (whole.0 h).0, (whole.0 h).1), λ p. whole.1 (same ∙ p.0, p.1))
 
-  entering : sound_of run count ≡ true → FirstOf (24 when FullRow ∷ []) (report_number (Seen shown))
+  entering : sound_of run count ≡ true → FirstOf (24 when FullRow ∷ []) (report_number (Ok shown))
   unfolding kept_of
   entering ok = retold (numbered left (keep_table run (entered (held run count) shown))) (full ok)
       (first left (keep_table run (entered (held run count) shown)) (keeping (entered (held run count) shown)) refl)
@@ -294,13 +289,13 @@ module _ (run : List Motor) (count line : ℕ) (b : List ℕ) where
   reporting ok =
       let table = report_table line (header_of b) (data_count b) (data_of b) in
       same_number (as_it_is λ p. as_it_is λ q. as_it_is λ r. in_other_words (bad_by_its_bytes b) λ s. as_it_is λ t. at_the_end)
-      (first_then report_number table (Seen shown) (24 when FullRow ∷ []) (λ facts. entering ok))
+      (first_then report_number table (Ok shown) (24 when FullRow ∷ []) (λ facts. entering ok))
 
   -- Rows 1 to 6 come first.
   reading : sound_of run count ≡ true → FirstOf (bundle_rows b ++ report_rows run count line b) (report_number (report_of line b))
   unfolding reading_of
   reading ok =
-      first_then (λ (x : Reading). report_number (report_by line b x)) (bundle_table b) (Reading.Frame (header_of b) (data_count b))
+      first_then (λ (x : Reading). report_number (report_by line b x)) (bundle_table b) (Ok (header_of b, data_count b))
       (report_rows run count line b) (λ facts. reporting ok)
 
 file : (run : List Motor) (count line : ℕ) (b : List ℕ) → FirstOf (file_rows run count line b) (left (filed_of run count line b))
@@ -319,7 +314,7 @@ check_form run b =
     let contents = fails_exactly_when (contents_right form_one count b) (contents_exactly_when b count) in
     let bodies = fails_exactly_when (bodies_right form_one count b) (bodies_exactly_when b count) in
     same_number (as_it_is λ p. as_it_is λ q. as_it_is λ r. as_it_is λ s. in_other_words contents λ t. in_other_words bodies λ u. at_the_end)
-    (first register_number (read_form_table (length run) b) (Count count) refl)
+    (first register_number (read_form_table (length run) b) (Ok count) refl)
 
 read_form : (run : List Motor) (b : List ℕ) → FirstOf (read_form_rows run b) (left (read_of run b))
 read_form run b = subst (λ (a : Answer). FirstOf (read_form_rows run b) (register_number a)) (the_check_is_the_answer run b) (check_form run b)
@@ -330,7 +325,7 @@ write_form : (run : List Motor) (count : ℕ) (buffer : List ℕ)
 unfolding written_of
 write_form run count buffer =
     let table = write_form_table run count (length buffer) in
-    retold (numbered form_number table) (unsound run count) (first form_number table (Written.Bytes (form_length form_one count)) refl)
+    retold (numbered form_number table) (unsound run count) (first form_number table (Ok (form_length form_one count)) refl)
 
 pub rows : Rows
 rows =

@@ -11,28 +11,27 @@ use lib.ListN.{length, get_or, drop, drop_of_length-le}
 use lib.Seq.{drop-cons}
 use Rattle.meaning.specs.Cases.{by_test}
 use Rattle.meaning.specs.Choice.{either}
-use Rattle.line.specs.Reader.{goes_on, close_of, run_of, ran_of}
+use Rattle.line.specs.Reader.{goes_on, close_of, run_of, ran_of, Answer}
 use Rattle.line.specs.Telling.{Entry, after, Told, said, wholly, entries}
 use Rattle.line.specs.declared.reader.Reader.{Reader}
-use Rattle.line.specs.declared.reader.Answer.{Answer}
-use Rattle.line.specs.declared.reader.Answer.TheVariants.{Nothing, Frame, Refused}
 use Rattle.line.specs.declared.reader.Stepped.{Stepped}
 use Rattle.line.specs.declared.reader.Ran.{Ran}
 use Rattle.line.proofs.Steps.{run_goes}
 use Rattle.promises.specs.ReaderInRange.{ReaderInRange}
 use Rattle.promises.specs.Demand3.{step_at, SingleSteps, at_the_end, answered, unanswered, RunAfterRun, answers, closes}
 use Rattle.promises.proofs.ReaderInRange.{is_sound_lem, stays_in_range}
+use Rattle.std.specs.Prelude.{Ok, Err, Some, None}
 
 -- A run goes on exactly while nothing is answered.
-is_nothing : (a : Answer) → goes_on a ≡ true → a ≡ Nothing
-is_nothing Nothing e = refl
-is_nothing (Frame h n) e = absurd (false≢true e)
-is_nothing (Refused q) e = absurd (false≢true e)
+is_nothing : (a : Answer) → goes_on a ≡ true → a ≡ (Ok None)
+is_nothing (Ok None) e = refl
+is_nothing (Ok (Some (h, n))) e = absurd (false≢true e)
+is_nothing (Err q) e = absurd (false≢true e)
 
-is_something : (a : Answer) → goes_on a ≡ false → a ≢ Nothing
+is_something : (a : Answer) → goes_on a ≡ false → a ≢ (Ok None)
 is_something a e n = false≢true (sym e ∙ ap goes_on n)
 
-tells_nothing : (s : Stepped) → s.answer ≡ Nothing → said s ≡ []
+tells_nothing : (s : Stepped) → s.answer ≡ (Ok None) → said s ≡ []
 tells_nothing s e = rw e
 
 module _ (bytes silences : List ℕ) (same : length bytes ≡ length silences) where
@@ -67,8 +66,8 @@ module _ (bytes silences : List ℕ) (same : length bytes ≡ length silences) w
   -- Single steps tell their part, and leave a reader in range that tells the rest; they stop early only to answer.
   record Onward (r : Reader) (place : ℕ) (x : Ran) : Type 0 where
     within : x.place ≤ length bytes
-    further : x.stepped.answer ≢ Nothing → place < x.place
-    to_the_end : x.stepped.answer ≡ Nothing → x.place ≡ length bytes
+    further : x.stepped.answer ≢ (Ok None) → place < x.place
+    to_the_end : x.stepped.answer ≡ (Ok None) → x.place ≡ length bytes
     in_range_lem : ReaderInRange x.stepped.reader
     tells : wholly r (rest place) ≡ said x.stepped ++ wholly x.stepped.reader (rest x.place)
 
@@ -102,13 +101,13 @@ module _ (bytes silences : List ℕ) (same : length bytes ≡ length silences) w
     abbrev x : Ran
     x = ran_of r bytes silences place
 
-    closed : x.stepped.answer ≡ Nothing → RunAfterRun bytes silences r place (wholly r (rest place))
+    closed : x.stepped.answer ≡ (Ok None) → RunAfterRun bytes silences r place (wholly r (rest place))
     closed e =
         let done : rest x.place ≡ [] = rw (drop_of_length-le bytes {i = x.place} (omega (arith, o.to_the_end e))) in
         let all : wholly r (rest place) ≡ said (close_of x.stepped.reader) = o.tells ∙ rw (tells_nothing x.stepped e, done) in
         rw all (closes e)
 
-    continued : x.stepped.answer ≢ Nothing
+    continued : x.stepped.answer ≢ (Ok None)
         → RunAfterRun bytes silences x.stepped.reader x.place (wholly x.stepped.reader (rest x.place))
         → RunAfterRun bytes silences r place (wholly r (rest place))
     continued n later = rw o.tells (answers n later)

@@ -13,7 +13,7 @@ use Rattle.node.proofs.Sent.{SendsAReply, every_message_sent_is_a_reply}
 use Rattle.promises.specs.BoardInRange.{SettingsInRange, BoardInRange}
 use Rattle.promises.specs.Groups.{Groups}
 use Rattle.promises.specs.Typed.{SettingsTyped, Typed, TypedTable}
-use Rattle.promises.specs.Reply.{Proper}
+use Rattle.promises.specs.Reply.{Proper, reply_in}
 use Rattle.promises.specs.Demand2.Board.{Became, set_up_lem, having_heard, at_a_pulse, blocked, cleared, powered_up_lem, SinceSetUp}
 use Rattle.promises.proofs.BoardInRange.{in_range_lem, is_sound_lem}
 use Rattle.promises.proofs.Typed.{for_its_laws}
@@ -59,6 +59,6 @@ module _ (s : Settings) (r : SettingsInRange s) (h : SettingsTyped s) where
         it_is_sound = i;
         its_numbers_fit = t;
         its_table_fits = u;
-        all_that_it_sends_is_a_reply = λ b. sends_a_reply n g b i t u;
+        all_that_it_sends_is_a_reply = λ b. sends_a_reply n g b i t u (reply_in (turn_of n g b));
         every_reply_of_it_is_a_frame_to_the_asker = λ b. replies_properly n g b i t u;
       }

@@ -12,16 +12,12 @@ use Rattle.runs.proofs.ByPlace.{all_exactly_when_by_place}
 use Rattle.runs.proofs.Filled.{filled_has_the_record}
 use Rattle.motors.specs.Motor.{zeros}
 use Rattle.motors.specs.Register.{held, sound_of}
-use Rattle.motors.specs.declared.answer.Answer.{Answer}
-use Rattle.motors.specs.declared.answer.Answer.TheVariants as answer
 use Rattle.motors.specs.declared.motor.Motor.{Motor}
 use Rattle.motors.proofs.Sound.{length_held}
 use Rattle.form.specs.Layout.{form_length, head_bytes, entry_bytes as form_entry, form_of, count_in, motor_in, motors_in}
 use Rattle.form.specs.FormOne.{form_one, TwoBytePulse, TwoBytePulses}
 use Rattle.form.specs.Reading.{read_of}
-use Rattle.form.specs.Writing.{written_of, buffer_after as form_written}
-use Rattle.form.specs.declared.writing.Written.{Written}
-use Rattle.form.specs.declared.writing.Written.TheVariants.{Bytes, Refused}
+use Rattle.form.specs.Writing.{written_of, buffer_after as form_written, Written}
 use Rattle.form.proofs.Accepted.{Accepted}
 use Rattle.form.proofs.FormLaws as form
 use Rattle.form.proofs.FormLaws.{a_register_written_and_read_again_is_the_same as written_and_read_again}
@@ -36,10 +32,12 @@ use Rattle.promises.specs.Demand2.Register.{held_after}
 use Rattle.promises.specs.Demand2.StoredForm.{Restored, Stored, StoredForm}
 use Rattle.promises.proofs.RegisterInRange.{at_held, row_19, so_sound}
 use Rattle.promises.proofs.StoredBytes.{bodies_exactly_when, motor_is_stored}
+use Rattle.motors.specs.Answer.{Answer}
+use Rattle.std.specs.Prelude.{Ok, Err}
 
 -- ---- reading
 module _ (run : List Motor) (b : List ℕ) where
-  module _ (n : ℕ) (e : (read_of run b).answer ≡ answer.Count n) where
+  module _ (n : ℕ) (e : (read_of run b).answer ≡ Ok n) where
     accepted : Accepted form_one b n
     accepted = form.accepted run b n e
 
@@ -70,8 +68,8 @@ module _ (run : List Motor) (b : List ℕ) where
   -- A form that is refused leaves the register as it was.
   still_in_range : (count : ℕ) → RegisterInRange run count → (a : Answer) → (read_of run b).answer ≡ a
       → RegisterInRange (read_of run b).motors (held_after count a)
-  still_in_range count r (answer.Count n) e = read_in_range n e
-  still_in_range count r (answer.Refused q) e = rw (form.a_refused_form_leaves_the_run_as_it_was run b q e) r
+  still_in_range count r (Ok n) e = read_in_range n e
+  still_in_range count r (Err q) e = rw (form.a_refused_form_leaves_the_run_as_it_was run b q e) r
 
 -- ---- writing
 -- Line and NodeID of a record in range fill no more than their bytes.
@@ -81,14 +79,14 @@ entry_laid m r place =
     let high : m.node / 65536 % 256 ≡ m.node / 65536 = omega (arith, r.node_id_to_fffeffh) in
     rw (line, high)
 
-module _ (run : List Motor) (count n : ℕ) (buffer : List ℕ) (e : written_of run count (length buffer) ≡ Bytes n) where
+module _ (run : List Motor) (count n : ℕ) (buffer : List ℕ) (e : written_of run count (length buffer) ≡ Ok n) where
   sound : sound_of run count ≡ true
   sound = (written_where run count (length buffer) n e).0
 
   of_its_length : n ≡ 3 + 11 * count
   of_its_length =
       let answered = written_by run count (length buffer) 2 (sound, ((written_where run count (length buffer) n e).1, tt)) in
-      let same : Bytes n ≡ Bytes (3 + 11 * count) = sym e ∙ answered in
+      let same : Ok n ≡ Ok (3 + 11 * count) = sym e ∙ answered in
       cc
 
   abbrev whole : List ℕ
@@ -143,8 +141,8 @@ buffer_length : (run : List Motor) (count : ℕ) (buffer : List ℕ) → length 
 buffer_length run count buffer = by_answer (written_of run count (length buffer)) refl
   where
     by_answer : (w : Written) → written_of run count (length buffer) ≡ w → length (form_written run count buffer) ≡ length buffer
-    by_answer (Bytes n) e = sym (ap length (laying_ends run count buffer n e)) ∙ laying_keeps_the_length run count buffer count
-    by_answer (Refused r) e = ap length (refused_leaves_the_buffer run count buffer r e)
+    by_answer (Ok n) e = sym (ap length (laying_ends run count buffer n e)) ∙ laying_keeps_the_length run count buffer count
+    by_answer (Err r) e = ap length (refused_leaves_the_buffer run count buffer r e)
 
 -- ---- both ways
 small_pulses : (run : List Motor) (count : ℕ) → RegisterInRange run count → ((place : ℕ) → place < count → (at run place).pulse < 65536)

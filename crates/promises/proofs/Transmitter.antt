@@ -5,48 +5,15 @@ use native.Mathlib.Omega.{arith}
 use mathlib.Core.Path.{◌≡◌, refl, ◌∙◌, sym, ap, ap₂, subst}
 use mathlib.Core.Logic.{◌≢◌, ◌↔◌, inl, inr, ⊎_elim}
 use mathlib.Core.Bool.{Bool, true, false, false≢true}
-use mathlib.Core.List.{List, [], ◌∷◌}
+use mathlib.Core.List.{List}
 use borrow.Author.Tests.{leb-true, le-leb}
 use lib.Dec.{leb}
 use lib.ListN.{length, take, drop}
 use Rattle.meaning.specs.Cases.{by_test}
 use Rattle.meaning.specs.Tests.{holds_by}
-use Rattle.frame.specs.Writing.{writing_of, buffer_after as frame_written}
-use Rattle.frame.specs.declared.writing.Writing.{Writing}
+use Rattle.frame.specs.Writing.{writing_of, buffer_after as frame_written, Writing}
 use Rattle.frame.proofs.Buffers.{refused_writes_nothing}
-use Rattle.rts.specs.{
-  Spelling.{spelled_by},
-  Table.{number_of, data_of as content_of, in_range},
-  Reading.{received_of, Carries},
-  Writing.{written_of, buffer_after},
-  declared.{
-    envelope.Envelope.{Envelope},
-    message.Message.{Message},
-    message.Message.TheVariants.{
-      CtrlPosition,
-      CtrlTilt,
-      CtrlDim,
-      SetChannelMode,
-      SetTiltFramecount,
-      SetDimFramecount,
-      SetSunAuto,
-      SetDctLock,
-      SetChannel,
-      SetOpenProg,
-      SetIp,
-      GetChannelMode,
-      GetTiltFramecount,
-      GetDimFramecount,
-      GetDctLock,
-      PostChannelMode,
-      PostTiltFramecount,
-      PostDimFramecount,
-      PostDctLock,
-    },
-    message.Spelled.{Spelled},
-    reading.Received.{Received},
-  },
-}
+use Rattle.rts.specs.{Spelling.{spelled_by}, Table.{number_of, data_of as content_of, in_range}, Reading.{received_of, Carries}, Writing.{written_of, buffer_after}, declared.{envelope.Envelope.{Envelope}, message.Message.{Message}, message.Message.TheVariants.{CtrlPosition, CtrlTilt, CtrlDim, SetChannelMode, SetTiltFramecount, SetDimFramecount, SetSunAuto, SetDctLock, SetChannel, SetOpenProg, SetIp, GetChannelMode, GetTiltFramecount, GetDimFramecount, GetDctLock, PostChannelMode, PostTiltFramecount, PostDimFramecount, PostDctLock}}}
 use Rattle.rts.proofs.Carried.{carried_is_read, read_is_carried}
 use Rattle.rts.proofs.Spelling.{spelled_exactly_when, unlisted_exactly_when, one_message}
 use Rattle.rts.proofs.Writes.{written_as_a_frame, buffer_as_a_frame, no_byte_for_a_field}
@@ -56,6 +23,7 @@ use Rattle.promises.specs.Numbers.{write_number}
 use Rattle.promises.specs.Demand2.Frames.{CanBeWritten, FrameAt}
 use Rattle.promises.specs.Demand2.Transmitter.{MSG, InRange, Has, Messages, MessageSays, header_of, Transmitter}
 use Rattle.promises.proofs.Frames.{to_rules, from_rules, to_writable, frames}
+use Rattle.std.specs.Prelude.{Ok, Err, None}
 
 -- ---- the messages
 -- In range by the rules that the tests of its row say.
@@ -117,7 +85,7 @@ no_other (PostTiltFramecount d) = refl
 no_other (PostDimFramecount d) = refl
 no_other (PostDctLock locked) = refl
 
-unlisted : (number : ℕ) (fields : List ℕ) → (spelled_by number fields ≡ Spelled.Unlisted) ↔ ((m : Message) → MSG m ≢ number)
+unlisted : (number : ℕ) (fields : List ℕ) → (spelled_by number fields ≡ None) ↔ ((m : Message) → MSG m ≢ number)
 unlisted number fields =
     let exactly = unlisted_exactly_when number fields in
     (λ none m e. exactly.0 none m (no_other m ∙ e), λ none. exactly.1 (λ m e. none m (sym (no_other m) ∙ e)))
@@ -173,7 +141,7 @@ module _ (b : List ℕ) (e : Envelope) (m : Message) where
             ∙ ap (envelope (leb 128 (raw b 1)) (sender b) (receiver b) (source b)) s.its_dest;
       }
 
-  read : (received_of b ≡ Received.Message e m) ↔ MessageSays b e m
+  read : (received_of b ≡ Ok (e, m)) ↔ MessageSays b e m
   read = (λ r. to_says (read_is_carried b e m r), λ s. carried_is_read b e m (from_says s))
 
 -- ---- what is written
@@ -198,9 +166,9 @@ module _ (buffer : List ℕ) (place : ℕ) (e : Envelope) (m : Message) where
       (λ out. subst P (sym (no_byte_for_a_field e m buffer place out)) kept)
     where
       by : (a : Writing) → writing_of (length buffer) place (header_of e m) (content_of m) ≡ a → P after
-      by (Writing.Next next) is =
+      by (Ok next) is =
           written ((frames.written_exactly_when_in_range buffer place (header_of e m) (content_of m)).1 (ap write_number is))
-      by (Writing.Refused refusal) is =
+      by (Err refusal) is =
           subst P (sym (refused_writes_nothing buffer place (header_of e m) (content_of m) refusal is)) kept
 
   before : take place (buffer_after buffer place e m) ≡ take place buffer
@@ -219,11 +187,11 @@ module _ (buffer : List ℕ) (place : ℕ) (e : Envelope) (m : Message) where
         subst (λ (l : List ℕ). FrameAt l place (header_of e m) (content_of m)) (sym (by_the_frame_writer fine).1)
         (frames.each_byte_is_written_as_header_and_data_say buffer place (header_of e m) (content_of m) w)
 
-    next : written_of (length buffer) place e m ≡ Writing.Next (place + size)
+    next : written_of (length buffer) place e m ≡ Ok (place + size)
     next =
         (by_the_frame_writer fine).0 ∙ frames.the_answer_is_the_place_after_the_frame buffer place (header_of e m) (content_of m) w
 
-again : (b : List ℕ) → Bytes b → (e : Envelope) (m : Message) → received_of b ≡ Received.Message e m
+again : (b : List ℕ) → Bytes b → (e : Envelope) (m : Message) → received_of b ≡ Ok (e, m)
     → (buffer : List ℕ) (place : ℕ) → place + length b ≤ length buffer
     → take (length b) (drop place (buffer_after buffer place e m)) ≡ b
 again b bytes e m r = read_is_written b e m (read_is_carried b e m r) (λ i within. bytes i)

@@ -1,6 +1,6 @@
 -- What a message comes to, as the turn whole: carried out, refused by a code, or a GET answered.
 -- Assumes nothing.
-use Rattle.std.specs.Prelude.{if◌then◌else◌}
+use Rattle.std.specs.Prelude.{if◌then◌else◌, None}
 use Prim.Native.Nat.{ℕ, ◌≤◌, ◌<◌}
 use native.Mathlib.Omega.{arith}
 use mathlib.Core.Path.{◌≡◌, refl, ◌∙◌, sym, ap, subst}
@@ -12,9 +12,7 @@ use Rattle.meaning.specs.Bytes.{Bytes}
 use Rattle.meaning.specs.Choice.{either}
 use Rattle.meaning.specs.Tables as tables
 use Rattle.frame.specs.Layout.{message, source, header_of, data_of}
-use Rattle.board.specs.Groups.{Groups}
-use Rattle.board.specs.declared.groups.Change.{Change}
-use Rattle.board.specs.declared.groups.Change.TheVariants.{Keep}
+use Rattle.board.specs.Groups.{Groups, Change}
 use Rattle.board.specs.declared.whole.Node.{Node}
 use Rattle.messages.specs.Code.{code_of}
 use Rattle.messages.specs.Outcome.{acts, posts, refuses, refusals, refusing}
@@ -30,7 +28,7 @@ use Rattle.node.specs.Replies.{reply_to, answered}
 use Rattle.node.specs.Turn.{silent, replied}
 use Rattle.node.specs.declared.turn.Turn.{Turn}
 use Rattle.promises.specs.Wire.{raw}
-use Rattle.promises.specs.Reply.{IsReply}
+use Rattle.promises.specs.Reply.{IsReply, reply_in}
 use Rattle.promises.specs.Rows.{Row, FirstOf}
 use Rattle.promises.specs.Demand2.Turns.{SaidIfAsked, CarriedOut, RefusedBy, Posted}
 use Rattle.promises.specs.Demand2.Codes.{FirstCode, Accepted}
@@ -105,7 +103,7 @@ module _ (n : Node) (g : Groups) (b : List ℕ) (a : Arrives n g b) where
   pub refused_by_lem : (code : Code) → came_to ≡ refuses n code → RefusedBy n b (turn_of n g b) (code_of code)
   refused_by_lem code e =
       let bytes = one_more_byte (code_of code) [] (code_fits code) no_bytes in
-      let (node, (table, says)) = says_if_asked n Keep 0x6F (code_of code ∷ []) (omega arith) (omega arith) bytes in
+      let (node, (table, says)) = says_if_asked n None 0x6F (code_of code ∷ []) (omega arith) (omega arith) bytes in
       subst (λ (t : Turn). RefusedBy n b t (code_of code)) (sym (turned (refuses n code) e))
       (record { the_board = node; the_table = table; says = says })
 
@@ -144,6 +142,6 @@ module _ (n : Node) (g : Groups) (b : List ℕ) (a : Arrives n g b) where
       subst (λ (t : Turn). Posted n b t m content) (sym (turned (posts n m content) e))
       (record { the_board = refl; the_table = refl; is_answered = refl; says = says })
     where
-      says : IsReply n b m content (answered n.settings (header_of b) (posts n m content)).reply
+      says : IsReply n b m content (reply_in (answered n.settings (header_of b) (posts n m content)))
       says = subst (λ (l : List ℕ). IsReply n b m content (reply_to n.settings (header_of b) m l)) (sym (content_is content))
           (a_reply_by_its_bytes n b m content a.in_range_lem named few bytes)

@@ -1,15 +1,9 @@
 -- Rows 32 and 33 of document 01, and what 2026-01 adds to them: when settings, and a board whole, are in range.
 -- Assumes nothing.
-use Rattle.std.specs.Prelude.{ℕ, ◌≤◌, ◌<◌, ◌≡◌, length, get_or}
+use Rattle.std.specs.Prelude.{ℕ, ◌≤◌, ◌<◌, ◌≡◌, length, get_or, Some, None}
 use Rattle.travel.specs.declared.Pulse.{Pulse}
-use Rattle.board.specs.declared.{
-  drive.Motion.TheVariants.{Running},
-  favourites.Ip.TheVariants.{Unset, At},
-  settings.Settings.{Settings},
-  whole.Node.{Node},
-}
+use Rattle.board.specs.declared.{settings.Settings.{Settings}, whole.Node.{Node}}
 use Rattle.promises.specs.Wire.{byte_at}
-use Rattle.promises.specs.BoardParts.{slot}
 use Rattle.promises.specs.Serials.{OriginRules}
 
 -- Row 32. A travel is 16 bits, so that 65,535 bounds it by its type.
@@ -33,9 +27,9 @@ pub record IsCharacter (character : ℕ) : Type 0 where
 pub record BoardInRange (n : Node) : Type 0 where
   pub settings_in_range : SettingsInRange n.settings
   pub position_within_the_travel : n.drive.position.0 ≤ n.settings.travel.0
-  pub target_within_the_travel : (target : Pulse) → n.drive.motion ≡ Running target
+  pub target_within_the_travel : (target : Pulse) → n.drive.motion ≡ Some target
       → target.0 ≤ n.settings.travel.0
-  pub every_ip_within_the_travel : (place : ℕ) (p : Pulse) → (get_or n.favourites.slots place (slot Unset)).ip ≡ At p
+  pub every_ip_within_the_travel : (place : ℕ) (p : Pulse) → get_or n.favourites.slots place None ≡ Some p
       → p.0 ≤ n.settings.travel.0
   pub holder_to_ffffffh : n.lock.holder.0 ≤ 0xFFFFFF
   pub label_of_characters : (place : ℕ) → place < length n.label → IsCharacter (byte_at n.label place)

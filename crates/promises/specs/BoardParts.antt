@@ -1,17 +1,12 @@
 -- The words of the promises for a board: its parts, field by field, and a board with one part changed. The fields are
 -- those of the structs in the source.
 -- Assumes nothing.
-use Rattle.std.specs.Prelude.{ℕ, ◌-◌, Bool, false, List, [], ◌∷◌, get_or, replicate}
+use Rattle.std.specs.Prelude.{ℕ, ◌-◌, Bool, false, List, [], ◌∷◌, get_or, replicate, None}
 use Rattle.frame.specs.declared.address.Address.{Address}
 use Rattle.travel.specs.declared.{IpIndex.{IpIndex}, Percent.{Percent}, Pulse.{Pulse}}
-use Rattle.board.specs.declared.{
-  drive.{Drive.{Drive}, Motion.{Motion}, Motion.TheVariants.{Still}},
-  favourites.{Favourites.{Favourites}, Ip.{Ip}, Ip.TheVariants.{Unset}, Slot.{Slot}},
-  lock.Lock.{Lock},
-  plate.Plate.{Plate},
-  settings.Settings.{Settings},
-  whole.Node.{Node},
-}
+use Rattle.board.specs.declared.{drive.{Drive.{Drive}}, favourites.Favourites.{Favourites}, lock.Lock.{Lock}, plate.Plate.{Plate}, settings.Settings.{Settings}, whole.Node.{Node}}
+use Rattle.board.specs.Drive.{Motion}
+use Rattle.board.specs.Favourites.{Ip}
 
 -- Numbers by their units.
 abbrev pub pulse : ℕ → Pulse
@@ -34,7 +29,7 @@ plate reference letter number origin =
 abbrev pub plain_plate : Plate
 plain_plate = plate 0 0x41 0 (0x41 ∷ 0x41 ∷ 0x30 ∷ 0x30 ∷ 0x30 ∷ 0x31 ∷ [])
 
--- A motor, a lock, a place for an IP.
+-- A motor, a lock.
 abbrev pub drive : Pulse → Motion → (direction source cause : ℕ) → (blocked : Bool) → Drive
 drive position motion direction source cause blocked =
     record {
@@ -49,16 +44,13 @@ drive position motion direction source cause blocked =
 abbrev pub lock : (locked : Bool) → (holder : Address) → (priority : ℕ) → (saved : Bool) → Lock
 lock locked holder priority saved = record { locked = locked; holder = holder; priority = priority; saved = saved }
 
-abbrev pub slot : Ip → Slot
-slot set = record { ip = set }
-
 -- The IP of a number from 1 to 16.
 abbrev pub ip_of : Favourites → ℕ → Ip
-ip_of favourites number = (get_or favourites.slots (number - 1) (slot Unset)).ip
+ip_of favourites number = get_or favourites.slots (number - 1) None
 
 -- Sixteen IPs that are not set, sixteen spaces, and sixteen empty entries of a group table.
 abbrev pub no_ips : Favourites
-no_ips = record { slots = replicate 16 (slot Unset) }
+no_ips = record { slots = replicate 16 None }
 
 abbrev pub spaces : List ℕ
 spaces = replicate 16 0x20
@@ -89,7 +81,7 @@ abbrev pub fresh_node : Settings → Node
 fresh_node s =
     record {
       settings = s;
-      drive = drive (pulse 0) Still 0xFF 0 0xFF false;
+      drive = drive (pulse 0) None 0xFF 0 0xFF false;
       favourites = no_ips;
       lock = lock false (address 0) 0 false;
       label = spaces;

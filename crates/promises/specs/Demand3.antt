@@ -2,10 +2,9 @@
 -- exactly the unharmed
 -- frames, in order, and numbered refusals for the rest.
 -- Assumes nothing.
-use Rattle.std.specs.Prelude.{ℕ, ◌+◌, ◌≤◌, ◌<◌, ◌≡◌, ◌≢◌, List, ◌++◌, map, length, get_or}
+use Rattle.std.specs.Prelude.{ℕ, ◌+◌, ◌≤◌, ◌<◌, ◌≡◌, ◌≢◌, List, ◌++◌, map, length, get_or, Ok, None}
 use Rattle.line.specs.Reader.{fresh, step_of, close_of, ran_of}
 use Rattle.line.specs.declared.reader.Reader.{Reader}
-use Rattle.line.specs.declared.reader.Answer.TheVariants.{Nothing}
 use Rattle.line.specs.declared.reader.Stepped.{Stepped}
 use Rattle.line.specs.declared.reader.Ran.{Ran}
 use Rattle.line.specs.Telling.{Entry, Told, said, wholly, entries}
@@ -21,21 +20,21 @@ step_at bytes silences r place = step_of r (get_or bytes place 0) (get_or silenc
 pub data SingleSteps (bytes silences : List ℕ) : Reader → ℕ → Ran → Type 0 where
   at_the_end : {r : Reader} {place : ℕ} → length bytes ≤ place
       → SingleSteps bytes silences r place (record { stepped = without_answer r; place = place })
-  answered : {r : Reader} {place : ℕ} → place < length bytes → (step_at bytes silences r place).answer ≢ Nothing
+  answered : {r : Reader} {place : ℕ} → place < length bytes → (step_at bytes silences r place).answer ≢ (Ok None)
       → SingleSteps bytes silences r place (record { stepped = step_at bytes silences r place; place = place + 1 })
   unanswered : {r : Reader} {place : ℕ} {x : Ran} → place < length bytes
-      → (step_at bytes silences r place).answer ≡ Nothing
+      → (step_at bytes silences r place).answer ≡ (Ok None)
       → SingleSteps bytes silences (step_at bytes silences r place).reader (place + 1) x
       → SingleSteps bytes silences r place x
 
 -- Run after run over two lent runs, from a reader and a place on: while a run answers, what it tells, and on from the
 -- reader and the place that it leaves; then what the close tells.
 pub data RunAfterRun (bytes silences : List ℕ) : Reader → ℕ → List Told → Type 0 where
-  answers : {r : Reader} {place : ℕ} {later : List Told} → (ran_of r bytes silences place).stepped.answer ≢ Nothing
+  answers : {r : Reader} {place : ℕ} {later : List Told} → (ran_of r bytes silences place).stepped.answer ≢ (Ok None)
       → RunAfterRun bytes silences (ran_of r bytes silences place).stepped.reader
       (ran_of r bytes silences place).place later
       → RunAfterRun bytes silences r place (said (ran_of r bytes silences place).stepped ++ later)
-  closes : {r : Reader} {place : ℕ} → (ran_of r bytes silences place).stepped.answer ≡ Nothing
+  closes : {r : Reader} {place : ℕ} → (ran_of r bytes silences place).stepped.answer ≡ (Ok None)
       → RunAfterRun bytes silences r place (said (close_of (ran_of r bytes silences place).stepped.reader))
 
 pub record Demand3 : Type 0 where

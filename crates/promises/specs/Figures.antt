@@ -1,6 +1,6 @@
 -- Document 01's worked figures P1 to P11, in bytes and numbers: one list, one statement.
 -- Assumes nothing.
-use Rattle.std.specs.Prelude.{ℕ, ◌≡◌, false, List, [], ◌∷◌, ◌++◌, map, take, replicate}
+use Rattle.std.specs.Prelude.{ℕ, ◌≡◌, false, List, [], ◌∷◌, ◌++◌, map, take, replicate, Ok, Some, None}
 use Rattle.std.proofs.Math.Option.{some}
 use Rattle.frame.specs.{
   Reading.{reading_of},
@@ -8,22 +8,10 @@ use Rattle.frame.specs.{
   declared.header.Header.{Header},
 }
 use Rattle.travel.specs.{Position.{percent_of_pulse, pulse_of_percent}, Share.{share_of}}
-use Rattle.board.specs.declared.{
-  drive.Motion.TheVariants.{Still},
-  groups.Change.TheVariants.{Keep},
-  whole.Node.{Node},
-}
-use Rattle.node.specs.{Frames.{turn_of}, declared.turn.Answer.TheVariants.{Replied}}
-use Rattle.motors.specs.{
-  Register.{found},
-  Filing.{filed_of},
-  declared.{motor.Motor.{Motor}, answer.Answer.TheVariants.{Count}},
-}
-use Rattle.form.specs.{
-  Reading.{read_of},
-  Writing.{written_of, buffer_after as form_written},
-  declared.writing.Written.TheVariants.{Bytes as Written},
-}
+use Rattle.board.specs.declared.whole.Node.{Node}
+use Rattle.node.specs.Frames.{turn_of}
+use Rattle.motors.specs.{Register.{found}, Filing.{filed_of}, declared.{motor.Motor.{Motor}}}
+use Rattle.form.specs.{Reading.{read_of}, Writing.{written_of, buffer_after as form_written}}
 use Rattle.promises.specs.Wire.{inverted}
 use Rattle.promises.specs.Numbers.{read_number}
 use Rattle.promises.specs.BoardParts.{
@@ -86,7 +74,7 @@ abbrev pub awning : Node
 awning =
     record {
       settings = record { id = address 0x050403; kind = 2; travel = pulse 1000; plate = plain_plate };
-      drive = drive (pulse 333) Still 0xFF 0 0xFF false;
+      drive = drive (pulse 333) None 0xFF 0 0xFF false;
       favourites = no_ips;
       lock = lock false (address 0x000000) 0 false;
       label = spaces;
@@ -102,9 +90,8 @@ P4 =
     turn_of awning empty_table get_position
     ≡ record {
       node = awning;
-      change = Keep;
-      answer = Replied;
-      reply = record { count = 16; bytes = position_told ++ replicate 15 0 };
+      change = None;
+      answer = Ok (Some (record { count = 16; bytes = position_told ++ replicate 15 0 }));
     }
 
 -- P3 with 00 put in front, without its last byte, and with last byte D5.
@@ -163,12 +150,12 @@ whole_file =
 -- The whole file, written and read; both motors found under line and NodeID; and P4's reply, filed on line 0.
 abbrev pub P11 : Type 0
 P11 =
-    (written_of two_motors 2 25 ≡ Written 25)
+    (written_of two_motors 2 25 ≡ Ok 25)
     × (form_written two_motors 2 (replicate 25 0) ≡ whole_file)
-    × (read_of no_motors whole_file ≡ record { motors = two_motors; answer = Count 2 })
+    × (read_of no_motors whole_file ≡ record { motors = two_motors; answer = Ok 2 })
     × (found two_motors 2 0 0x050403 ≡ some on_line0)
     × (found two_motors 2 1 0x050403 ≡ some on_line1)
-    × (filed_of no_motors 0 0 position_told ≡ record { motors = one_motor; answer = Count 1 })
+    × (filed_of no_motors 0 0 position_told ≡ record { motors = one_motor; answer = Ok 1 })
 
 abbrev pub figures : List (Type 0)
 figures = P1 ∷ P2 ∷ P3 ∷ P4 ∷ P5 ∷ P6 ∷ P7 ∷ P8 ∷ P9 ∷ P10 ∷ P11 ∷ []

@@ -1,16 +1,16 @@
 -- Document 01's number of every refusal, row by row, and of every answer: that of its refusal, 0 where nothing is
 -- refused.
 -- Assumes nothing.
-use Rattle.std.specs.Prelude.{ℕ, List, [], ◌∷◌}
+use Rattle.std.specs.Prelude.{ℕ, List, [], ◌∷◌, Some, None, Ok, Err}
 use Rattle.refusal.specs.declared.Refusal.{Refusal}
-use Rattle.frame.specs.declared.reading.Reading.{Reading}
-use Rattle.frame.specs.declared.writing.Writing.{Writing}
-use Rattle.line.specs.declared.reader.Answer as line
-use Rattle.board.specs.declared.events.Verdict.{Verdict}
-use Rattle.node.specs.declared.turn.Answer as turn
-use Rattle.motors.specs.declared.answer.Answer as motors
-use Rattle.form.specs.declared.writing.Written.{Written}
-use Rattle.rts.specs.declared.reading.Received.{Received}
+use Rattle.frame.specs.Reading.{Reading}
+use Rattle.frame.specs.Writing.{Writing}
+use Rattle.line.specs.Reader.{Answer as Stepping}
+use Rattle.board.specs.Events.{Verdict}
+use Rattle.node.specs.Turn.{Answer as Turning}
+use Rattle.motors.specs.Answer.{Answer}
+use Rattle.form.specs.Writing.{Written}
+use Rattle.rts.specs.Reading.{Received}
 
 -- The table "Numbers given back".
 abbrev pub number_of : Refusal → ℕ
@@ -50,38 +50,38 @@ number_of Refusal.BadBody = 44
 number_of Refusal.NoRoomForForm = 45
 
 abbrev pub read_number : Reading → ℕ
-read_number (Reading.Frame header count) = 0
-read_number (Reading.Refused refusal) = number_of refusal
+read_number (Ok (header, count)) = 0
+read_number (Err refusal) = number_of refusal
 
 abbrev pub write_number : Writing → ℕ
-write_number (Writing.Next place) = 0
-write_number (Writing.Refused refusal) = number_of refusal
+write_number (Ok place) = 0
+write_number (Err refusal) = number_of refusal
 
-abbrev pub line_number : line.Answer → ℕ
-line_number line.Answer.Nothing = 0
-line_number (line.Answer.Frame header count) = 0
-line_number (line.Answer.Refused refusal) = number_of refusal
+abbrev pub line_number : Stepping → ℕ
+line_number (Ok None) = 0
+line_number (Ok (Some (header, count))) = 0
+line_number (Err refusal) = number_of refusal
 
 abbrev pub event_number : Verdict → ℕ
-event_number Verdict.Done = 0
-event_number (Verdict.Refused refusal) = number_of refusal
+event_number (Ok tt) = 0
+event_number (Err refusal) = number_of refusal
 
-abbrev pub turn_number : turn.Answer → ℕ
-turn_number turn.Answer.Silent = 0
-turn_number turn.Answer.Replied = 0
-turn_number (turn.Answer.Refused refusal) = number_of refusal
+abbrev pub turn_number : Turning → ℕ
+turn_number (Ok None) = 0
+turn_number (Ok (Some reply)) = 0
+turn_number (Err refusal) = number_of refusal
 
-abbrev pub register_number : motors.Answer → ℕ
-register_number (motors.Answer.Count count) = 0
-register_number (motors.Answer.Refused refusal) = number_of refusal
+abbrev pub register_number : Answer → ℕ
+register_number (Ok count) = 0
+register_number (Err refusal) = number_of refusal
 
 abbrev pub form_number : Written → ℕ
-form_number (Written.Bytes count) = 0
-form_number (Written.Refused refusal) = number_of refusal
+form_number (Ok count) = 0
+form_number (Err refusal) = number_of refusal
 
 abbrev pub received_number : Received → ℕ
-received_number (Received.Message envelope message) = 0
-received_number (Received.Refused refusal) = number_of refusal
+received_number (Ok (envelope, message)) = 0
+received_number (Err refusal) = number_of refusal
 
 -- Rows 1 to 6: a bundle is no frame.
 abbrev pub no_frame : List ℕ

@@ -1,10 +1,9 @@
 -- The line reader's values in plain numbers: in range by row 9 of document 01, no bundle open, and what hands out no
 -- byte.
 -- Assumes nothing.
-use Rattle.std.specs.Prelude.{ℕ, ◌≤◌, ◌≡◌, List, ◌∷◌, get_or, take, replicate}
+use Rattle.std.specs.Prelude.{ℕ, ◌≤◌, ◌≡◌, List, ◌∷◌, get_or, take, replicate, Ok, Err, None}
 use Rattle.refusal.specs.declared.Refusal.{Refusal}
 use Rattle.line.specs.declared.reader.Reader.{Reader}
-use Rattle.line.specs.declared.reader.Answer.TheVariants.{Nothing, Refused}
 use Rattle.line.specs.declared.reader.Stepped.{Stepped}
 
 -- Row 9 does not apply: 32 stands for too long, and zeros stand behind the bytes counted.
@@ -30,8 +29,8 @@ begun_with byte = record { kept = byte ∷ replicate 30 0; count = 1 }
 
 -- No answer, and no byte handed out.
 abbrev pub without_answer : Reader → Stepped
-without_answer r = record { reader = r; answer = Nothing; bundle = zeros31 }
+without_answer r = record { reader = r; answer = (Ok None); bundle = zeros31 }
 
 -- A refusal, and no byte handed out.
 abbrev pub with_refusal : Reader → Refusal → Stepped
-with_refusal r q = record { reader = r; answer = Refused q; bundle = zeros31 }
+with_refusal r q = record { reader = r; answer = Err q; bundle = zeros31 }

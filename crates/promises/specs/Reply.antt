@@ -1,10 +1,11 @@
 -- A reply by its bytes (document 01, under the message table): a frame of the node to the asker, then zeros.
 -- Assumes nothing.
-use Rattle.std.specs.Prelude.{ℕ, ◌+◌, ◌-◌, ◌<◌, ◌≡◌, ◌≢◌, List, length, take, drop, replicate}
+use Rattle.std.specs.Prelude.{ℕ, ◌+◌, ◌-◌, ◌<◌, ◌≡◌, List, length, take, drop, replicate, Some, None, Ok, Err}
 use Rattle.refusal.specs.declared.Refusal.{Refusal}
 use Rattle.frame.specs.Reading.{reading_of}
-use Rattle.board.specs.declared.{whole.Node.{Node}, groups.Change.TheVariants.{Keep}}
-use Rattle.node.specs.declared.turn.{Answer.TheVariants.{Silent, Replied, Refused}, Reply.{Reply}, Turn.{Turn}}
+use Rattle.board.specs.declared.whole.Node.{Node}
+use Rattle.node.specs.Turn.{Answer}
+use Rattle.node.specs.declared.turn.{Reply.{Reply}, Turn.{Turn}}
 use Rattle.promises.specs.Numbers.{read_number}
 use Rattle.promises.specs.Wire.{raw, message, sender, receiver, source, destination, data_of}
 
@@ -30,19 +31,32 @@ pub record IsReply (n : Node) (b : List ℕ) (msg : ℕ) (content : List ℕ) (r
 abbrev pub no_reply : Reply
 no_reply = record { count = 0; bytes = replicate 31 0 }
 
+-- The reply that an answer has, no byte where it has none.
+abbrev pub reply_of : Answer → Reply
+reply_of (Ok None) = no_reply
+reply_of (Ok (Some r)) = r
+reply_of (Err refusal) = no_reply
+
+abbrev pub reply_in : Turn → Reply
+reply_in t = reply_of t.answer
+
+-- The node replies.
+abbrev pub Replied : Turn → Type 0
+Replied t = t.answer ≡ Ok (Some (reply_in t))
+
 -- Silence and no change.
 abbrev pub ignored : Node → Turn
-ignored n = record { node = n; change = Keep; answer = Silent; reply = no_reply }
+ignored n = record { node = n; change = None; answer = Ok None }
 
 -- What a node makes of a bundle has a reply to it where it says so, and else none.
 pub record Proper (n : Node) (b : List ℕ) (t : Turn) : Type 0 where
-  pub a_frame_to_the_asker : t.answer ≡ Replied → (msg : ℕ) × (content : List ℕ) × IsReply n b msg content t.reply
-  pub no_reply_in_silence : t.answer ≡ Silent → t.reply ≡ no_reply
-  pub no_reply_when_refused : (r : Refusal) → t.answer ≡ Refused r → t.reply ≡ no_reply
+  pub a_frame_to_the_asker : Replied t → (msg : ℕ) × (content : List ℕ) × IsReply n b msg content (reply_in t)
+  pub no_reply_in_silence : t.answer ≡ Ok None → reply_in t ≡ no_reply
+  pub no_reply_when_refused : (r : Refusal) → t.answer ≡ Err r → reply_in t ≡ no_reply
 
 -- Neither node nor table is changed, and nothing is said.
 pub record Untouched (n : Node) (t : Turn) : Type 0 where
   pub node_kept : t.node ≡ n
-  pub table_kept : t.change ≡ Keep
-  pub not_answered : t.answer ≢ Replied
-  pub nothing_said : t.reply ≡ no_reply
+  pub table_kept : t.change ≡ None
+  pub not_answered : ¬ Replied t
+  pub nothing_said : reply_in t ≡ no_reply

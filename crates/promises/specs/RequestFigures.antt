@@ -1,35 +1,11 @@
 -- The worked figures of the change requests (document 02), in bytes and numbers: one list, one statement.
 -- Assumes nothing.
-use Rattle.std.specs.Prelude.{ℕ, ◌-◌, ◌≡◌, true, false, List, [], ◌∷◌, ◌++◌, map, length, replicate}
+use Rattle.std.specs.Prelude.{ℕ, ◌-◌, ◌≡◌, true, false, List, [], ◌∷◌, ◌++◌, map, length, replicate, Ok, Some, None}
 use Rattle.travel.specs.Position.{percent_of_pulse}
 use Rattle.serial.specs.Serial.{serial_of}
-use Rattle.board.specs.declared.{
-  drive.Motion.TheVariants.{Still, Running},
-  favourites.Ip.TheVariants.{Unset, At},
-  groups.Change.TheVariants.{Keep},
-  whole.Node.{Node},
-}
-use Rattle.node.specs.{Frames.{turn_of}, declared.turn.{Answer.TheVariants.{Replied}, Turn.{Turn}}}
-use Rattle.rts.specs.{
-  Reading.{received_of},
-  Writing.{written_of, buffer_after as message_written},
-  declared.{
-    envelope.Envelope.{Envelope},
-    message.Message.{Message},
-    message.Message.TheVariants.{
-      CtrlPosition,
-      CtrlTilt,
-      SetSunAuto,
-      SetDctLock,
-      SetIp,
-      GetChannelMode,
-      PostChannelMode,
-      PostTiltFramecount,
-      PostDctLock,
-    },
-    reading.Received.{Received},
-  },
-}
+use Rattle.board.specs.declared.whole.Node.{Node}
+use Rattle.node.specs.{Frames.{turn_of}, declared.turn.Turn.{Turn}}
+use Rattle.rts.specs.{Reading.{received_of}, Writing.{written_of, buffer_after as message_written}, declared.{envelope.Envelope.{Envelope}, message.Message.{Message}, message.Message.TheVariants.{CtrlPosition, CtrlTilt, SetSunAuto, SetDctLock, SetIp, GetChannelMode, PostChannelMode, PostTiltFramecount, PostDctLock}}}
 use Rattle.promises.specs.Numbers.{write_number, received_number}
 use Rattle.promises.specs.BoardParts.{
   address,
@@ -37,7 +13,6 @@ use Rattle.promises.specs.BoardParts.{
   plate,
   drive,
   lock,
-  slot,
   empty_table,
   with_drive,
   with_favourites,
@@ -51,9 +26,8 @@ abbrev pub replies : Node → List ℕ → Turn
 replies n reply =
     record {
       node = n;
-      change = Keep;
-      answer = Replied;
-      reply = record { count = length reply; bytes = reply ++ replicate (31 - length reply) 0 };
+      change = None;
+      answer = Ok (Some (record { count = length reply; bytes = reply ++ replicate (31 - length reply) 0 }));
     }
 
 -- 2026-01: GD, 2009, week 45.
@@ -115,14 +89,14 @@ r02_halves =
 
 -- 2026-03: the board of the serial number, of travel 1,000, with one IP set, at pulse 400.
 abbrev pub first : Node
-first = with_favourites plated (record { slots = slot (At (pulse 400)) ∷ replicate 15 (slot Unset) })
+first = with_favourites plated (record { slots = Some (pulse 400) ∷ replicate 15 None })
 
 abbrev pub last : Node
-last = with_favourites plated (record { slots = replicate 15 (slot Unset) ++ (slot (At (pulse 400)) ∷ []) })
+last = with_favourites plated (record { slots = replicate 15 None ++ (Some (pulse 400) ∷ []) })
 
 -- 2026-03: it runs there, from pulse 0, down.
 abbrev pub running : Node → Node
-running n = with_drive n (drive (pulse 0) (Running (pulse 400)) 0 1 1 false)
+running n = with_drive n (drive (pulse 0) (Some (pulse 400)) 0 1 1 false)
 
 -- 2026-03: SET_MOTOR_IP, 15h, function 3, index 1, 40 percent, with the ACK bit; and its 7Fh.
 abbrev pub store_first : List ℕ
@@ -189,7 +163,7 @@ abbrev pub is_not_set : List ℕ
 is_not_set = 0x90 ∷ 0xF3 ∷ 0xDF ∷ 0xFC ∷ 0xFD ∷ 0xFE ∷ 0xFF ∷ 0x00 ∷ 0x00 ∷ 0xDC ∷ 0x07 ∷ 0x34 ∷ []
 
 abbrev pub blocked : Node → Node
-blocked n = with_drive n (drive (pulse 0) Still 0xFF 0 0x20 true)
+blocked n = with_drive n (drive (pulse 0) None 0xFF 0 0x20 true)
 
 abbrev pub r03_in_order : Type 0
 r03_in_order =
@@ -209,7 +183,7 @@ from_transmitter =
 -- 2026-04: a message written at the start of a buffer of this length that has zeros, and read.
 abbrev pub IsOnTheWire : Envelope → Message → List ℕ → Type 0
 IsOnTheWire e m wire =
-    (message_written (replicate (length wire) 0) 0 e m ≡ wire) × (received_of wire ≡ Received.Message e m)
+    (message_written (replicate (length wire) 0) 0 e m ≡ wire) × (received_of wire ≡ Ok (e, m))
 
 -- 2026-04: 002's four worked frames. CTRL_POSITION, channel 4, down (2).
 abbrev pub position_down : List ℕ
@@ -279,7 +253,7 @@ counts_exchanged =
 abbrev pub r04_counts : Type 0
 r04_counts =
     IsOnTheWire from_transmitter (PostTiltFramecount (record { channel = 6; us = 4; ce = 13 })) post_counts
-    × (received_of counts_exchanged ≡ Received.Message from_transmitter (PostTiltFramecount (record { channel = 6; us = 13; ce = 4 })))
+    × (received_of counts_exchanged ≡ Ok (from_transmitter, PostTiltFramecount (record { channel = 6; us = 13; ce = 4 })))
 
 -- 2026-04: POST_DCT_LOCK with all five inputs locked; with bit 6; and 83h, which is no message of the list.
 abbrev pub all_locked : List ℕ

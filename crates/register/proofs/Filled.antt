@@ -1,86 +1,32 @@
--- A run that is set place by place towards a goal, from one place on upwards; the two goals of a reading, and its two ends.
---     Turn             where such a loop stands: the places before i are at the goal, the others as they were
---     begun, next, ended
---                      before the first turn, one turn on, and behind the last
+-- The first places of a run set and the others cleared, which is what a reading does, and its two ends.
 --     first_.., others_..    what stands at the places of `first_set` and of `others_cleared`
---     refused_is_left, accepted_is_set
---                      a form that is refused leaves the run as it was; where one is accepted, a run whose first places are set and whose others
---                      are cleared is what the reading leaves
+--     accepted_is_set  where a form is accepted, a run whose first places are set and whose others are cleared is what the reading leaves
 -- Assumes nothing.
 use Prim.Native.Nat.{ℕ, ◌+◌, ◌-◌, ◌<◌, ◌≤◌}
 use native.Mathlib.Omega.{arith}
-use mathlib.Core.Path.{◌≡◌, refl, ◌∙◌, sym, ap, subst}
-use mathlib.Core.Bool.{not}
-use mathlib.Core.List.{List}
-use mathlib.Core.WellFounded.InvImage
-use mathlib.Core.WellFounded.{WellFounded}
-use lib.WfN.{lt-wf_rel}
-use lib.Dec.{T as Holds, ltb, eqb}
-use lib.ListN.{length, get_or, set, take, drop, length-append, length-take, length-drop, length-set, get_or-append, get_or-eq_default}
-use lib.Seq.{ext_get_or, get_or-set_same, get_or-set_other, get_or-take, get_or-drop, get_or-append-add}
-use borrow.Author.Tests.{eqb-true, eqb-false, ltb-true, ltb-false}
+use mathlib.Core.Path.{◌≡◌, ◌∙◌, sym, ap, ap₂, subst}
+use mathlib.Core.List.{List, [], ◌++◌, append-nil}
+use lib.Dec.{ltb}
+use borrow.Rule.Slice.PartMut.{put_mid}
+use lib.ListN.{length, get_or, take, drop, replicate, drop_of_length-le, length-append, length-take, length-drop, get_or-append, get_or-eq_default}
+use lib.Seq.{take_all, length-take-le, get_or-take, get_or-drop, get_or-append-add}
+use borrow.Author.Tests.{ltb-true, ltb-false}
 use Rattle.meaning.specs.Cases.{by_test}
 use Rattle.meaning.specs.Tables.{of_decided}
+use Rattle.runs.specs.Places.{filled}
 use Rattle.runs.proofs.Filled.{filled_has_every_place, filled_has_the_record, filled_is_blank_behind}
 use Rattle.motors.specs.Motor.{zeros}
 use Rattle.motors.specs.Register.{places}
-use Rattle.motors.specs.declared.answer.Answer.{Answer}
-use Rattle.motors.specs.declared.answer.Answer.TheVariants as answer
 use Rattle.motors.specs.declared.motor.Motor.{Motor}
 use Rattle.form.specs.FormOne.{form_one}
 use Rattle.form.specs.Layout.{count_in, listed}
-use Rattle.form.specs.Reading.{checked, read_form_table, check_of, read_of, place_in, is_refusal, counted_in}
+use Rattle.form.specs.Reading.{checked, read_form_table, check_of, read_of, place_in}
 use Rattle.form.proofs.Everywhere.{length-listed, listed_at}
 use Rattle.form.proofs.Placed.{behind_the_last}
-use Rattle.form.proofs.InPlace.{refused_leaves_the_run, at_most_256_are_read, every_place_set_is_read}
+use Rattle.form.proofs.InPlace.{at_most_256_are_read, every_place_set_is_read}
 use Rattle.register.specs.Run.{fewer, first_set, others_cleared}
-
--- ---- a loop that sets place after place, from a start up to a stop
-module _ (ys goal : List Motor) (start stop : ℕ) where
-  pub record Turn : Type 0 where
-    pub i : ℕ
-    pub ws : List Motor
-    pub long : length ws ≡ length ys
-    pub on : start ≤ i
-    pub done : (j : ℕ) → j < i → get_or ws j zeros ≡ get_or goal j zeros
-    pub left : (j : ℕ) → i ≤ j → get_or ws j zeros ≡ get_or ys j zeros
-
-  abbrev pub begun : ((j : ℕ) → j < start → get_or ys j zeros ≡ get_or goal j zeros) → Turn
-  begun same = record { i = start; ws = ys; long = refl; on = omega arith; done = same; left = λ j h. refl }
-
-  -- place i is set
-  module _ (t : Turn) (m : Motor) (l : t.i < length ys) (e : get_or goal t.i zeros ≡ m) where
-    pub set_too : (j : ℕ) → j < t.i + 1 → get_or (set t.ws t.i m) j zeros ≡ get_or goal j zeros
-    set_too j h =
-        by_test (eqb j t.i)
-        (λ u. let same = eqb-true j t.i u in rw same (get_or-set_same t.ws t.i m zeros (omega (arith, t.long)) ∙ sym e))
-        (λ u. let other = eqb-false j t.i u in get_or-set_other t.ws t.i j m zeros other ∙ t.done j (omega (arith, other)))
-
-    pub left_still : (j : ℕ) → t.i + 1 ≤ j → get_or (set t.ws t.i m) j zeros ≡ get_or ys j zeros
-    left_still j h = get_or-set_other t.ws t.i j m zeros (λ same. omega (arith, same)) ∙ t.left j (omega arith)
-
-    abbrev pub next : Turn
-    next = record {
-      i = t.i + 1;
-      ws = set t.ws t.i m;
-      long = length-set t.ws t.i m ∙ t.long;
-      on = omega (arith, t.on);
-      done = set_too;
-      left = left_still;
-    }
-
-  abbrev pub Falls : Turn → Turn → Type 0
-  Falls t u = stop - t.i < stop - u.i
-
-  pub falls : WellFounded Falls
-  falls = InvImage.wf (λ (t : Turn). stop - t.i) lt-wf_rel.wf
-
-  pub ended : length goal ≡ length ys → (t : Turn) → ((j : ℕ) → t.i ≤ j → get_or goal j zeros ≡ get_or ys j zeros) → t.ws ≡ goal
-  ended whole t same =
-      ext_get_or zeros t.ws goal (t.long ∙ sym whole) (λ j h.
-      by_test (ltb j t.i)
-      (λ u. t.done j (ltb-true j t.i u))
-      (λ u. let beyond = ltb-false j t.i u in t.left j beyond ∙ sym (same j beyond)))
+use Rattle.motors.specs.Answer.{Answer}
+use Rattle.std.specs.Prelude.{Ok, Err}
 
 -- ---- the first places set
 module _ (motor_at : ℕ → Motor) (count : ℕ) (run : List Motor) where
@@ -121,6 +67,33 @@ module _ (motor_at : ℕ → Motor) (count : ℕ) (run : List Motor) where
 
 -- ---- the others cleared
 module _ (count : ℕ) (run : List Motor) where
+  -- Places that hold no motor, behind the first.
+  pub others_are_cleared : (n : ℕ) → n ≡ fewer count (length run) → (ws : List Motor) → ws ≡ replicate (length run - n) zeros
+      → put_mid n (length run - n) run ws ≡ others_cleared count run
+  unfolding others_cleared filled
+  others_are_cleared n e ws f =
+      let none : drop (length run - n) (drop n run) ≡ [] = drop_of_length-le (drop n run) (rw length-drop (omega arith)) in
+      let first : take n run ≡ take count run =
+      by_test (ltb count (length run))
+      (λ t. let few : n ≡ count = e ∙ rw t in ap (λ (k : ℕ). take k run) few)
+      (λ t.
+      let all : n ≡ length run = e ∙ rw t in
+      let many : length run ≤ count = ltb-false count (length run) t in
+      take_all n run (omega arith) ∙ sym (take_all count run many)) in
+      let number : length run - n ≡ length run - length (take count run) =
+      by_test (ltb count (length run))
+      (λ t.
+      let few : n ≡ count = e ∙ rw t in
+      let l = ltb-true count (length run) t in
+      omega (arith, length-take-le count run (omega arith)))
+      (λ t.
+      let all : n ≡ length run = e ∙ rw t in
+      let many : length run ≤ count = ltb-false count (length run) t in
+      omega (arith, ap length (take_all count run many))) in
+      ap₂ (λ (t w : List Motor). t ++ (w ++ drop (length run - n) (drop n run))) first (f ∙ ap (λ (k : ℕ). replicate k zeros) number)
+      ∙ ap (λ (d : List Motor). take count run ++ (replicate (length run - length (take count run)) zeros ++ d)) none
+      ∙ ap (λ (w : List Motor). take count run ++ w) (append-nil (replicate (length run - length (take count run)) zeros))
+
   taken : length (take count run) ≤ count × (length (take count run) ≤ length run)
   taken = rw (length-take count run) (omega arith, omega arith)
 
@@ -143,16 +116,16 @@ module _ (count : ℕ) (run : List Motor) where
   unfolding others_cleared
   others_are_zeros j h = filled_is_blank_behind (length run) zeros (take count run) j (omega (arith, taken.0))
 
--- ---- the ends of a reading
+-- ---- the end of a reading
 module _ (run : List Motor) (b : List ℕ) where
   -- A form that is read is read into 256 places: the first row of the check.
   abbrev Of256 : Answer → Type 0
-  Of256 (answer.Count n) = length run ≡ places
-  Of256 (answer.Refused r) = Unit {0}
+  Of256 (Ok n) = length run ≡ places
+  Of256 (Err r) = Unit {0}
 
   of_256 : Of256 (check_of (length run) b)
   unfolding checked
-  of_256 = of_decided Of256 (read_form_table (length run) b) (answer.Count (count_in b)) (search) (λ facts. facts.0)
+  of_256 = of_decided Of256 (read_form_table (length run) b) (Ok (count_in b)) (search) (λ facts. facts.0)
 
   -- The first places get so many motors of the form, and the others are cleared.
   abbrev pub all_set : ℕ → List Motor
@@ -161,8 +134,9 @@ module _ (run : List Motor) (b : List ℕ) where
   pub all_set_keeps_the_length : (n : ℕ) → length (all_set n) ≡ length run
   all_set_keeps_the_length n = others_keep_the_length n (first_set (place_in n b) n run) ∙ first_keeps_the_length (place_in n b) n run
 
-  counted_is_set : (n : ℕ) → check_of (length run) b ≡ answer.Count n → all_set n ≡ (read_of run b).motors
-  counted_is_set n e =
+  -- Where a form is accepted, that is what the reading leaves.
+  pub accepted_is_set : (n : ℕ) → check_of (length run) b ≡ Ok n → all_set n ≡ (read_of run b).motors
+  accepted_is_set n e =
       let whole : length run ≡ places = subst Of256 e of_256 in
       let few = at_most_256_are_read run b n e in
       let first = first_set (place_in n b) n run in
@@ -175,17 +149,3 @@ module _ (run : List Motor) (b : List ℕ) where
     where
       all_held : (n : ℕ) → n ≤ length run → (i : ℕ) → i < n → i < fewer n (length run)
       all_held n few i l = by_test (ltb n (length run)) (λ t. rw t l) (λ t. rw t (omega arith))
-
-  pub refused_is_left : Holds (is_refusal (check_of (length run) b)) → run ≡ (read_of run b).motors
-  refused_is_left = by_answer (check_of (length run) b) refl
-    where
-      by_answer : (a : Answer) → check_of (length run) b ≡ a → Holds (is_refusal a) → run ≡ (read_of run b).motors
-      by_answer (answer.Count n) e h = absurd h
-      by_answer (answer.Refused r) e h = sym (refused_leaves_the_run run b r e)
-
-  pub accepted_is_set : Holds (not (is_refusal (check_of (length run) b))) → all_set (counted_in (check_of (length run) b)) ≡ (read_of run b).motors
-  accepted_is_set = by_answer (check_of (length run) b) refl
-    where
-      by_answer : (a : Answer) → check_of (length run) b ≡ a → Holds (not (is_refusal a)) → all_set (counted_in a) ≡ (read_of run b).motors
-      by_answer (answer.Count n) e h = counted_is_set n e
-      by_answer (answer.Refused r) e h = absurd h

@@ -1,3 +1,4 @@
+pub mod Moving
 pub mod Rows
 pub mod Editing
 pub mod Determined

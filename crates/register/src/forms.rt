@@ -4,33 +4,28 @@ ghost use Rattle.form.specs.Reading.{read_of, place_in};
 ghost use Rattle.form.specs.Writing.{written_of, buffer_after, laid_up_to};
 ghost use Rattle.register.specs.Run.{fewer, first_set, others_cleared};
 
-use crate::places::{fewer, look_up};
-use form::Written;
-use motors::{Answer, Motor};
+use crate::places::look_up;
+use motors::Motor;
+use refusal::Refusal;
 
-// A form read into the run: rows 19, 40 to 44.
-pub fn read_form(run: &mut [Motor], bytes: &[u8]) -> Answer
+// How many motors are held after a form is read into the run; or rows 19, 40 to 44.
+pub fn read_form(run: &mut [Motor], bytes: &[u8]) -> Result<usize, Refusal>
     ensures { (result ≡ (read_of run.old bytes.now).answer) × (run.new ≡ (read_of run.old bytes.now).motors) }
 {
-    let answer = form::check(run.len(), bytes);
-    if form::refuses(answer) {
-        return answer;
-    }
-    let count = form::counted(answer);
+    let count = form::check(run.len(), bytes)?;
     fill(run, bytes, count);
     clear(run, count);
-    answer
+    Ok(count)
 }
 
 // The first places get the motors of the form.
 fn fill(run: &mut [Motor], bytes: &[u8], count: usize)
     ensures { run.new ≡ first_set (place_in count bytes.now) count run.old }
 {
-    let held = fewer(count, run.len());
-    let mut i: usize = 0;
-    while i < held {
-        run[i] = form::place(bytes, count, i);
-        i += 1;
+    let held = count.min(run.len());
+    // Stays: by index; tried over iter_mut().enumerate(), and slower: forms read, 256 motors, took 0.80 of C's time for 0.70.
+    for at in 0..held {
+        run[at] = form::place(bytes, count, at);
     }
 }
 
@@ -38,25 +33,18 @@ fn fill(run: &mut [Motor], bytes: &[u8], count: usize)
 fn clear(run: &mut [Motor], count: usize)
     ensures { run.new ≡ others_cleared count run.old }
 {
-    let none = motors::unread(0, 0);
-    let mut i = count;
-    while i < run.len() {
-        run[i] = none;
-        i += 1;
-    }
+    let held = count.min(run.len());
+    run[held..].fill(motors::unread(0, 0));
 }
 
-// The form written into the buffer: rows 19, 45. The run is only read.
-pub fn write_form(run: &[Motor], count: usize, buffer: &mut [u8]) -> Written
+// How many bytes of the buffer the form is written into; or rows 19, 45. The run is only read.
+pub fn write_form(run: &[Motor], count: usize, buffer: &mut [u8]) -> Result<usize, Refusal>
     ensures { (result ≡ written_of run.now count (length buffer.old)) × (buffer.new ≡ buffer_after run.now count buffer.old) }
 {
     let found = look_up(run, count, motors::unread(0, 0));
-    let written = form::room(found, count, buffer.len());
-    if form::is_refused(written) {
-        return written;
-    }
+    let size = form::room(found, count, buffer.len())?;
     lay(run, count, buffer);
-    written
+    Ok(size)
 }
 
 // The head, then motor after motor.
@@ -64,10 +52,8 @@ fn lay(run: &[Motor], count: usize, buffer: &mut [u8])
     ensures { buffer.new ≡ laid_up_to run.now count buffer.old (fewer count (length run.now)) }
 {
     form::lay_head(buffer, count);
-    let held = fewer(count, run.len());
-    let mut i: usize = 0;
-    while i < held {
-        form::lay_motor(buffer, count, i, run[i]);
-        i += 1;
+    let held = count.min(run.len());
+    for (at, motor) in run[..held].iter().enumerate() {
+        form::lay_motor(buffer, count, at, *motor);
     }
 }

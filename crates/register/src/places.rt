@@ -5,11 +5,11 @@ ghost use Rattle.motors.specs.Motor.{zeros};
 ghost use Rattle.motors.specs.Passing.{passed_of};
 ghost use Rattle.motors.specs.Found.{found_of, bits_of};
 ghost use Rattle.motors.specs.Edit.{applied};
-ghost use Rattle.register.specs.Run.{fewer};
 
-use motors::{Edit, Found, Motor, Passing};
+use motors::{Edit, Found, Motor, Passing, Way};
 
 // Where a motor stands or would stand, or row 19: one pass over the places, in two loops.
+// Stays: no binary search, since row 19 is asked of every record, and the same pass finds the place.
 pub(crate) fn look_up(run: &[Motor], count: usize, motor: Motor) -> Found
     ensures { result ≡ found_of run.now count motor }
 {
@@ -28,33 +28,21 @@ fn pass(run: &[Motor], count: usize, wanted: u64) -> Passing
     ensures { result ≡ passed_of run.now count wanted }
 {
     let mut passing = Passing::begun(count);
-    let mut i = fewer(count, run.len());
-    while i > 0 {
-        i -= 1;
-        passing = passing.past(wanted, run[i], i);
+    // Stays: by index; tried as iter().rev().fold, and the proof did not close: the search does not follow iter().rev().
+    for at in (0..count.min(run.len())).rev() {
+        passing = passing.past(wanted, run[at], at);
     }
     passing
-}
-
-// Of the records counted, as many as there are places.
-pub(crate) fn fewer(count: usize, places: usize) -> usize
-    ensures { result ≡ fewer count places }
-{
-    if count < places {
-        return count;
-    }
-    places
 }
 
 // The bits of the places behind them, the last one first: no early exit, so that several places are looked at at once.
 fn bits_behind(run: &[Motor], count: usize) -> u64
     ensures { result ≡ bits_of (drop count run.now) }
 {
-    let mut bits: u64 = 0;
-    let mut i = run.len();
-    while i > count {
-        i -= 1;
-        bits = motors::gather(bits, run[i]);
+    let mut bits = 0;
+    // Stays: by index; tried as iter().rev().fold, and the proof did not close: the search does not follow iter().rev().
+    for at in (count..run.len()).rev() {
+        bits = motors::gather(bits, run[at]);
     }
     bits
 }
@@ -63,10 +51,9 @@ fn bits_behind(run: &[Motor], count: usize) -> u64
 pub(crate) fn apply(run: &mut [Motor], edit: Edit)
     ensures { run.new ≡ applied run.old edit }
 {
-    if edit.up {
-        move_up(run, edit.from, edit.last, edit.motor);
-    } else {
-        move_down(run, edit.from, edit.last, edit.motor);
+    match edit.way {
+        Way::Up => move_up(run, edit.from, edit.last, edit.motor),
+        Way::Down => move_down(run, edit.from, edit.last, edit.motor),
     }
 }
 
@@ -74,16 +61,9 @@ pub(crate) fn apply(run: &mut [Motor], edit: Edit)
 fn move_up(run: &mut [Motor], from: usize, last: usize, motor: Motor)
     ensures { run.new ≡ moved_up zeros run.old from last motor }
 {
-    if last >= run.len() {
-        return;
-    }
-    let mut carried = motor;
-    let mut i = from;
-    while i <= last {
-        let next = run[i];
-        run[i] = carried;
-        carried = next;
-        i += 1;
+    if from <= last && last < run.len() {
+        run.copy_within(from..last, from + 1);
+        run[from] = motor;
     }
 }
 
@@ -91,15 +71,8 @@ fn move_up(run: &mut [Motor], from: usize, last: usize, motor: Motor)
 fn move_down(run: &mut [Motor], from: usize, last: usize, motor: Motor)
     ensures { run.new ≡ moved_down zeros run.old from last motor }
 {
-    if last >= run.len() {
-        return;
-    }
-    let mut carried = motor;
-    let mut i = last + 1;
-    while i > from {
-        i -= 1;
-        let next = run[i];
-        run[i] = carried;
-        carried = next;
+    if from <= last && last < run.len() {
+        run.copy_within(from + 1..last + 1, from);
+        run[last] = motor;
     }
 }

@@ -1,135 +1,119 @@
 // The register's commands, and its rows.
 #![tactic(auto)]
 
-ghost use Rattle.std.specs.Prelude.{◌≤◌};
+ghost use Rattle.std.specs.Prelude.{◌≡◌, length, take, Some, IsErr};
+ghost use Rattle.motors.specs.declared.answer.Next.{Next};
+ghost use Rattle.register_room.specs.Told.{told};
 
-use console::{
-    NONE, Order, Said, answer, command, first, part, plainly, put_row, put_said, put_text, refused,
-    with_number,
-};
-use form::Written;
-use motors::{Answer, Motor, Next, PLACES};
+use console::{Id, RegisterCommand, Rows, Said, first};
+use frame::Address;
+use motors::{Motor, PLACES};
+use refusal::Refusal;
+use std::fmt;
 
-// The register after a command, and the answer.
+// The register on the bench.
+// Stays: motors with their count, the form of the register that C lends.
 #[derive(Clone, Copy)]
-pub struct Kept {
+pub struct RegisterRoom {
     pub motors: [Motor; PLACES],
     pub count: usize,
-    pub said: Said,
 }
 
-// A fresh start has an empty register.
-pub fn unkept() -> Kept {
-    let none = motors::unread(0, 0);
-    Kept {
-        motors: [none; PLACES],
-        count: 0,
-        said: plainly(answer::NO_ROW),
+impl RegisterRoom {
+    // A fresh start has an empty register.
+    pub fn new() -> RegisterRoom
+        ensures { result.count ≡ 0 }
+    {
+        RegisterRoom {
+            motors: [motors::unread(0, 0); PLACES],
+            count: 0,
+        }
     }
-}
 
-// A command that changes the register; any other is passed over.
-pub fn at_register(kept: Kept, order: Order, bytes: &[u8]) -> Kept {
-    let command = order.command;
-    let motors = kept.motors;
-    let count = kept.count;
-    match command {
-        command::LINE | command::STRIKE | command::LOAD => after_call(
-            count,
-            next(motors, count, order, bytes),
-        ),
-        _ => Kept {
-            motors,
-            count,
-            said: plainly(answer::NO_ROW),
-        },
+    #[tactic(auto, unfolding(crate::specs::Told::told))]
+    pub fn obey(&mut self, command: RegisterCommand<'_>, rows: &mut Rows)
+        ensures motors { command.entry ≡ RegisterCommand.Motors → self.new ≡ self.old }
+        ensures store { command.entry ≡ RegisterCommand.Store → self.new ≡ self.old }
+        ensures refused { (next : Next) → told self.old.motors self.old.count command.entry ≡ Some next → IsErr next.answer → self.new.count ≡ self.old.count }
+        ensures rows { take (length rows.old) rows.new ≡ rows.old }
+    {
+        let count = self.count;
+        match command {
+            RegisterCommand::Line { line, bundle } => {
+                let answer = register::receive(&mut self.motors, count, line, bundle);
+                rows.put(self.after(answer));
+            }
+            RegisterCommand::Strike { line, id } => {
+                let answer = register::strike_out(&mut self.motors, count, line, id.0);
+                rows.put(self.after(answer));
+            }
+            RegisterCommand::Load(form) => {
+                let answer = register::read_form(&mut self.motors, form);
+                rows.put(self.after(answer));
+            }
+            RegisterCommand::Motors => rows.put(MotorRows(self.held())),
+            RegisterCommand::Store => self.put_form(rows),
+        }
     }
-}
 
-// `line DEC HEX`, `strike DEC ID`, `load HEX`
-fn next(motors: [Motor; PLACES], count: usize, order: Order, bytes: &[u8]) -> Next {
-    let command = order.command;
-    match command {
-        command::LINE => register::received(motors, count, order.small(0), bytes),
-        command::STRIKE => register::struck_out(motors, count, order.small(0), order.large(1)),
-        _ => register::restored(motors, bytes),
+    // A refusal leaves the count.
+    fn after(&mut self, answer: Result<usize, Refusal>) -> Said<'static>
+        ensures { IsErr answer → self.new ≡ self.old }
+    {
+        match answer {
+            Ok(count) => {
+                self.count = count;
+                Said::Done
+            }
+            Err(refusal) => Said::Refused(refusal),
+        }
     }
-}
 
-// What a call answered, beside the places that it left.
-fn after_call(held: usize, next: Next) -> Kept {
-    let motors = next.motors;
-    let answer = next.answer;
-    match answer {
-        Answer::Count(count) => Kept {
-            motors,
-            count,
-            said: plainly(answer::DONE),
-        },
-        Answer::Refused(refusal) => Kept {
-            motors,
-            count: held,
-            said: refused(refusal),
-        },
+    fn held(&self) -> &[Motor] {
+        let motors = self.motors.as_slice();
+        motors.get(..self.count).unwrap_or(motors)
     }
-}
 
-// The answer, the rows of `motors` or the row of `store`.
-pub fn put_register(kept: Kept, order: Order, out: &mut [u8; 65536], at: u16) -> u16 {
-    let command = order.command;
-    let motors = kept.motors;
-    match command {
-        command::MOTORS => put_motors(motors, kept.count, out, at),
-        command::STORE => put_form(motors, kept.count, out, at),
-        _ => put_said(out, at, kept.said),
+    fn put_form(&self, rows: &mut Rows)
+        ensures { take (length rows.old) rows.new ≡ rows.old }
+    {
+        let mut buffer = [0; 4096];
+        match register::write_form(&self.motors, self.count, &mut buffer) {
+            Ok(length) => rows.put(Said::Form(first(&buffer, length))),
+            Err(refusal) => rows.put(Said::Refused(refusal)),
+        }
     }
 }
 
 // One row, and then one for each motor.
-fn put_motors(motors: [Motor; PLACES], count: usize, out: &mut [u8; 65536], at: u16) -> u16 {
-    let held = places(count);
-    let mut behind = put_said(out, at, with_number(answer::MOTORS, held as u32));
-    for i in 0..held {
-        let motor = motors[i];
-        behind = put_motor(motor, out, behind);
+#[derive(Clone, Copy)]
+struct MotorRows<'a>(&'a [Motor]);
+
+impl fmt::Display for MotorRows<'_> {
+    fn fmt<W: fmt::Write>(&self, f: &mut fmt::Formatter<W>) -> fmt::Result {
+        let count = self.0.len();
+        write!(f, "motors {count}")?;
+        for motor in self.0 {
+            write!(f, "\n{}", MotorRow(*motor))?;
+        }
+        Ok(())
     }
-    behind
 }
 
-// A register holds no more motors than it has places.
-fn places(count: usize) -> usize
-    ensures { result ≤ 256 }
-{
-    if count > PLACES {
-        return PLACES;
-    }
-    count
-}
+#[derive(Clone, Copy)]
+struct MotorRow(Motor);
 
-fn put_motor(motor: Motor, out: &mut [u8; 65536], at: u16) -> u16 {
-    let numbers = [
-        motor.line,
-        motor.node,
-        pulse_of(motor),
-        motor.percent as u32,
-        motor.ip as u32,
-    ];
-    let texts = b"# @ -\n;# @ # # $\n";
-    put_text(out, at, part(texts, b';', motor.mark as usize), &numbers)
-}
-
-fn pulse_of(motor: Motor) -> u32 {
-    if motor.mark == 0 {
-        return NONE;
-    }
-    motor.pulse as u32
-}
-
-fn put_form(motors: [Motor; PLACES], count: usize, out: &mut [u8; 65536], at: u16) -> u16 {
-    let mut bytes = [0u8; 4096];
-    let written = register::stored(motors, count, &mut bytes);
-    match written {
-        Written::Bytes(length) => put_row(out, at, b"form ", 0, first(&bytes, length)),
-        Written::Refused(refusal) => put_said(out, at, refused(refusal)),
+impl fmt::Display for MotorRow {
+    fn fmt<W: fmt::Write>(&self, f: &mut fmt::Formatter<W>) -> fmt::Result {
+        let motor = self.0;
+        let line = motor.line;
+        let node = Id(Address(motor.node));
+        if motor.mark == 0 {
+            return write!(f, "{line} {node} -");
+        }
+        let pulse = motor.pulse;
+        let percent = motor.percent;
+        let ip = motor.ip;
+        write!(f, "{line} {node} {pulse} {percent} {ip:02X}")
     }
 }

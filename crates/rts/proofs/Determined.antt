@@ -2,6 +2,8 @@
 -- Assumes nothing.
 use mathlib.Core.Path.{◌∙◌, sym}
 use Rattle.meaning.specs.Determined.{Once, OnceLent}
+use Rattle.rts.proofs.envelope.EnvelopeFromHeader.from.Kinds as envelope_kinds
+use Rattle.rts.proofs.envelope.EnvelopeFromHeader.from.Reads as envelope
 use Rattle.rts.proofs.message.Message.fields.Kinds as fields_kinds
 use Rattle.rts.proofs.message.Message.fields.Reads as fields
 use Rattle.rts.proofs.message.Message.number.Kinds as number_kinds
@@ -16,6 +18,7 @@ use Rattle.rts.proofs.writing.write.Kinds as write_kinds
 use Rattle.rts.proofs.writing.write.Reads as write
 
 pub record Determined : Type 0 where
+  pub envelope_once : Once envelope_kinds.ps envelope_kinds.r envelope.Post
   pub fields_once : Once fields_kinds.ps fields_kinds.r fields.Post
   pub number_once : Once number_kinds.ps number_kinds.r number.Post
   pub count_once : Once count_kinds.ps count_kinds.r count.Post
@@ -26,6 +29,7 @@ pub record Determined : Type 0 where
 pub determined : Determined
 determined =
     record {
+      envelope_once = λ κs a x y s t p q. p ∙ sym q;
       fields_once = λ κs a x y s t p q. p ∙ sym q;
       number_once = λ κs a x y s t p q. p ∙ sym q;
       count_once = λ κs a x y s t p q. p ∙ sym q;

@@ -18,10 +18,10 @@ use Rattle.rts.specs.Table.{number_of, data_of, in_range}
 use Rattle.rts.specs.Writing.{header_of, buffer_after}
 use Rattle.rts.specs.declared.envelope.Envelope.{Envelope}
 use Rattle.rts.specs.declared.message.Message.{Message}
-use Rattle.rts.specs.declared.reading.Received.{Received}
 use Rattle.rts.proofs.Carried.{carried_is_read}
 use Rattle.rts.proofs.Lines.{no_reserved_number, bytes_in_range}
 use Rattle.rts.proofs.Writes.{buffer_as_a_frame}
+use Rattle.std.specs.Prelude.{Ok}
 
 module _ (buffer : List ℕ) (place : ℕ) (e : Envelope) (m : Message) (fine : (in_range m).holds ≡ true) where
   module _ (w : Writable (length buffer) place (header_of e m) (data_of m)) where
@@ -39,7 +39,7 @@ module _ (buffer : List ℕ) (place : ℕ) (e : Envelope) (m : Message) (fine : 
           says_its_envelope = sym (ap envelope_of back);
         }
 
-    pub written_is_read : received_of (take (11 + length (data_of m)) (drop place (buffer_after buffer place e m))) ≡ Received.Message e m
+    pub written_is_read : received_of (take (11 + length (data_of m)) (drop place (buffer_after buffer place e m))) ≡ Ok (e, m)
     written_is_read =
         ap received_of
         (ap (λ (l : List ℕ). take (11 + length (data_of m)) (drop place l)) (buffer_as_a_frame e m buffer place fine)

@@ -8,15 +8,15 @@ use mathlib.Core.List.{List, []}
 use lib.ListN.{length}
 use Rattle.meaning.specs.Tests.{opposite}
 use Rattle.refusal.specs.declared.Refusal.{Refusal}
-use Rattle.frame.specs.Writing.{writing_of, frame_of, laid, in_place_of_room, buffer_after as buffer_written}
+use Rattle.frame.specs.Writing.{writing_of, frame_of, laid, in_place_of_room, buffer_after as buffer_written, Writing}
 use Rattle.frame.specs.declared.header.Header.{Header}
-use Rattle.frame.specs.declared.writing.Writing.{Writing}
 use Rattle.frame.proofs.Buffers.{not_written_otherwise, refused_writes_nothing}
 use Rattle.frame.proofs.OneRowMore.{as_the_writer, behind_its_rows}
 use Rattle.rts.specs.Table.{data_of, in_range}
 use Rattle.rts.specs.Writing.{header_of, written_of, buffer_after}
 use Rattle.rts.specs.declared.envelope.Envelope.{Envelope}
 use Rattle.rts.specs.declared.message.Message.{Message}
+use Rattle.std.specs.Prelude.{Ok, Err}
 
 module _ (e : Envelope) (m : Message) where
   abbrev h : Header
@@ -39,8 +39,8 @@ module _ (e : Envelope) (m : Message) where
   -- A refusal in the place of another is a refusal.
   keeps : (a : Writing) (buffer : List ℕ) (place : ℕ)
       → laid (in_place_of_room Refusal.FieldOutOfRange a) buffer place (frame_of h (data_of m)) ≡ buffer
-  keeps (Writing.Next next) buffer place = refl
-  keeps (Writing.Refused refusal) buffer place = refl
+  keeps (Ok next) buffer place = refl
+  keeps (Err refusal) buffer place = refl
 
   pub no_byte_for_a_field : (buffer : List ℕ) (place : ℕ) → (in_range m).holds ≡ false → buffer_after buffer place e m ≡ buffer
   no_byte_for_a_field buffer place out =

@@ -3,8 +3,8 @@
 use Rattle.std.specs.Prelude.{ℕ, true, List, [], ◌∷◌, map, length, get_or}
 use Rattle.meaning.specs.Tests.{Test, succeeds, ◌and◌}
 use Rattle.rts.specs.Range.{◌to◌, even_to, ◌takes◌}
+use Rattle.rts.specs.declared.field.{Range.{Range}, Field.{Field}}
 use Rattle.rts.specs.declared.data.{
-  Range.{Range},
   Position.{Position},
   Step.{Step},
   Mode.{Mode},
@@ -16,15 +16,15 @@ use Rattle.rts.specs.declared.data.{
 use Rattle.rts.specs.declared.table.Line.{Line}
 
 -- A field and its range.
-pub data Field : Type 0 where
-  ◌within◌ : ℕ → Range → Field
+abbrev pub ◌within◌ : ℕ → Range → Field
+◌within◌ value range = record { value = value; range = range }
 
 infix 69 ◌within◌
 abbrev pub value_of : Field → ℕ
-value_of (value within range) = value
+value_of field = field.value
 
 abbrev pub fits : Field → Test
-fits (value within range) = range takes value
+fits field = field.range takes field.value
 
 -- Every field is in its range.
 abbrev pub fit : List Field → Test

@@ -2,7 +2,7 @@
 -- Assumes nothing.
 use Rattle.std.specs.Prelude.{ℕ, ◌%◌, true, false}
 use Rattle.meaning.specs.Tests.{Test, ◌at_least◌, ◌at_most◌, ◌is◌, fails, ◌and◌, ◌or◌}
-use Rattle.rts.specs.declared.data.Range.{Range}
+use Rattle.rts.specs.declared.field.Range.{Range}
 
 -- From the lowest number to the highest; and the even ones from 0.
 abbrev pub ◌to◌ : ℕ → ℕ → Range

@@ -4,7 +4,6 @@
 use Rattle.std.specs.Prelude.{ℕ, List, [], map}
 use Rattle.meaning.specs.Tests.{Test}
 use Rattle.rts.specs.Fields.{
-  Field,
   value_of,
   fit,
   line_as,
@@ -18,6 +17,7 @@ use Rattle.rts.specs.Fields.{
   channel,
   inputs,
 }
+use Rattle.rts.specs.declared.field.Field.{Field}
 use Rattle.rts.specs.declared.message.Message.{Message}
 use Rattle.rts.specs.declared.message.Message.TheVariants.{
   CtrlPosition,

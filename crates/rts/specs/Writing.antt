@@ -1,12 +1,11 @@
 -- A typed message written as a frame (document 02, 2026-04): the frame writer's rows, and row 15 before its row 14.
 -- Assumes nothing.
-use Rattle.std.specs.Prelude.{ℕ, List, length}
+use Rattle.std.specs.Prelude.{ℕ, List, length, Err}
 use Rattle.meaning.specs.Tests.{opposite}
 use Rattle.meaning.specs.Tables.{Row, ◌when◌}
 use Rattle.refusal.specs.declared.Refusal.{Refusal}
-use Rattle.frame.specs.Writing.{writing_with, frame_of, laid}
+use Rattle.frame.specs.Writing.{writing_with, frame_of, laid, Writing}
 use Rattle.frame.specs.declared.header.Header.{Header}
-use Rattle.frame.specs.declared.writing.Writing.{Writing}
 use Rattle.rts.specs.Envelope.{headed}
 use Rattle.rts.specs.Table.{number_of, data_of, in_range}
 use Rattle.rts.specs.declared.envelope.Envelope.{Envelope}
@@ -18,7 +17,7 @@ header_of e m = headed e (number_of m)
 
 -- Row 15: a field is out of range.
 abbrev pub field_row : Message → Row Writing
-field_row m = Writing.Refused Refusal.FieldOutOfRange when opposite (in_range m)
+field_row m = Err Refusal.FieldOutOfRange when opposite (in_range m)
 
 -- The first reason that applies, or the place after the frame.
 abbrev pub written_of : (room place : ℕ) → Envelope → Message → Writing

@@ -5,6 +5,7 @@ ghost use Rattle.rts.specs.Envelope.{envelope_of, headed};
 use frame::{Address, Header};
 
 // The header without MSG: the transmitter's type is 5, and who sends what to whom is the caller's to say.
+// Stays: a public type of its own, of which `envelope_of` and `headed` speak.
 #[derive(Clone, Copy)]
 pub struct Envelope {
     // The ACK bit: an answer is asked for.
@@ -17,19 +18,21 @@ pub struct Envelope {
     pub destination: Address,
 }
 
-impl Envelope {
-    pub(crate) fn of(header: Header) -> Envelope
-        ensures { result ≡ envelope_of header }
-    {
+impl From<Header> for Envelope {
+    ghost from_gives = { λ header result. result ≡ envelope_of header };
+
+    fn from(header: Header) -> Envelope {
         Envelope {
             ack: header.ack,
             sender: header.sender,
             receiver: header.receiver,
-            source: Address(header.source.0),
-            destination: Address(header.destination.0),
+            source: header.source,
+            destination: header.destination,
         }
     }
+}
 
+impl Envelope {
     // The header of a message of this number.
     pub(crate) fn header(self, number: u8) -> Header
         ensures { result ≡ headed self number }
@@ -39,8 +42,8 @@ impl Envelope {
             ack: self.ack,
             sender: self.sender,
             receiver: self.receiver,
-            source: Address(self.source.0),
-            destination: Address(self.destination.0),
+            source: self.source,
+            destination: self.destination,
         }
     }
 }

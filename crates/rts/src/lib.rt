@@ -4,6 +4,7 @@
 
 mod data;
 mod envelope;
+mod field;
 mod message;
 mod reading;
 mod table;
@@ -11,6 +12,6 @@ mod writing;
 
 pub use data::{Contact, Counts, Frames, Mode, Position, Step, Sun};
 pub use envelope::Envelope;
-pub use message::{Message, Spelled, message_of};
-pub use reading::{Received, read};
+pub use message::{Message, message_of};
+pub use reading::read;
 pub use writing::write;

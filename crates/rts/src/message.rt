@@ -5,9 +5,8 @@ ghost use Rattle.rts.specs.Spelling.{spelled_by};
 ghost use Rattle.rts.specs.Table.{number_of, data_of};
 
 use crate::data::{Contact, Counts, Frames, Mode, Position, Step, Sun};
-use crate::table::{Entry, entry_of};
 
-#[derive(Clone, Copy)]
+#[derive(Clone, Copy, PartialEq, Eq)]
 pub enum Message {
     // 80h.
     CtrlPosition(Position),
@@ -49,13 +48,6 @@ pub enum Message {
     PostDctLock { locked: u8 },
 }
 
-// The message that a number and its fields spell.
-#[derive(Clone, Copy)]
-pub enum Spelled {
-    Message(Message),
-    Unlisted,
-}
-
 impl Message {
     // MSG.
     pub fn number(self) -> u8
@@ -79,13 +71,62 @@ impl Message {
     }
 }
 
-// The message of this MSG, its fields taken from the bytes in their order.
-pub fn message_of(number: u8, fields: [u8; 4]) -> Spelled
+// The message of this MSG, its fields taken from the bytes in their order; none where the list has no such MSG.
+#[tactic(auto, unfolding(crate::specs::Spelling::spelled_by))]
+pub fn message_of(number: u8, fields: [u8; 4]) -> Option<Message>
     ensures { result ≡ spelled_by number fields }
 {
-    let entry = entry_of(number, fields);
-    match entry {
-        Entry::Listed(_, _, message) => Spelled::Message(message),
-        Entry::Unlisted => Spelled::Unlisted,
-    }
+    let [first, second, third, fourth] = fields;
+    let step = Step {
+        channel: first,
+        direction: second,
+        value: third,
+    };
+    let mode = Mode {
+        channel: first,
+        ergonomics: second,
+        movement: third,
+        modulis: fourth,
+    };
+    let counts = Counts {
+        channel: first,
+        us: second,
+        ce: third,
+    };
+    let frames = Frames {
+        channel: first,
+        count: second,
+    };
+    let message = match number {
+        0x80 => Message::CtrlPosition(Position {
+            channel: first,
+            order: second,
+        }),
+        0x81 => Message::CtrlTilt(step),
+        0x82 => Message::CtrlDim(step),
+        0x90 => Message::SetChannelMode(mode),
+        0x91 => Message::SetTiltFramecount(counts),
+        0x92 => Message::SetDimFramecount(frames),
+        0x93 => Message::SetSunAuto(Sun {
+            channel: first,
+            off: second,
+        }),
+        0x94 => Message::SetDctLock(Contact {
+            input: first,
+            lock: second,
+        }),
+        0x97 => Message::SetChannel { channel: first },
+        0x98 => Message::SetOpenProg { channel: first },
+        0x9A => Message::SetIp { channel: first },
+        0xA0 => Message::GetChannelMode { channel: first },
+        0xA1 => Message::GetTiltFramecount { channel: first },
+        0xA2 => Message::GetDimFramecount { channel: first },
+        0xA4 => Message::GetDctLock,
+        0xB0 => Message::PostChannelMode(mode),
+        0xB1 => Message::PostTiltFramecount(counts),
+        0xB2 => Message::PostDimFramecount(frames),
+        0xB4 => Message::PostDctLock { locked: first },
+        _ => return None,
+    };
+    Some(message)
 }

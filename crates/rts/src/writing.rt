@@ -6,11 +6,15 @@ ghost use Rattle.rts.specs.Writing.{written_of, buffer_after};
 
 use crate::envelope::Envelope;
 use crate::message::Message;
-use frame::Writing;
 use refusal::Refusal;
 
 // Rows 10, 11, 15 and 14, in this order: the frame writer's own, and 15 before its last.
-pub fn write(buffer: &mut [u8], place: usize, envelope: Envelope, message: Message) -> Writing
+pub fn write(
+    buffer: &mut [u8],
+    place: usize,
+    envelope: Envelope,
+    message: Message,
+) -> Result<usize, Refusal>
     ensures value { result ≡ written_of (length buffer.old) place envelope message }
     ensures buffer_after { buffer.new ≡ buffer_after buffer.old place envelope message }
 {
@@ -26,16 +30,11 @@ pub fn write(buffer: &mut [u8], place: usize, envelope: Envelope, message: Messa
 }
 
 // Row 15 in the place of row 14; who was lent no room has not written.
-fn in_place_of_room(writing: Writing) -> Writing
+fn in_place_of_room(writing: Result<usize, Refusal>) -> Result<usize, Refusal>
     ensures { result ≡ in_place_of_room Refusal.FieldOutOfRange writing }
 {
     match writing {
-        Writing::Next(_) => Writing::Refused(Refusal::FieldOutOfRange),
-        Writing::Refused(refusal) => {
-            if refusal.number() == 14 {
-                return Writing::Refused(Refusal::FieldOutOfRange);
-            }
-            Writing::Refused(refusal)
-        }
+        Ok(_) | Err(Refusal::NoRoom) => Err(Refusal::FieldOutOfRange),
+        Err(refusal) => Err(refusal),
     }
 }

@@ -1,6 +1,6 @@
 -- Orders of keys: numbers, one key and behind it another, and keys in a row, the first that differs deciding.
 -- Assumes nothing.
-use Rattle.std.specs.Prelude.{if◌then◌else◌, ℕ, ◌<◌, ◌≤◌, ◌≡◌, ◌⊎◌, Bool, false, ltb, eqb}
+use Rattle.std.specs.Prelude.{if◌then◌else◌, ℕ, ◌≡◌, ◌⊎◌, Bool, false, ltb, eqb}
 use Rattle.std.proofs.Common.{arith, ◌∙◌, sym, ltb-true, ltb-false, eqb-true, lt-ltb, le-ltb, eq-eqb}
 use Rattle.std.proofs.Math.Path.{refl, ap₂}
 use Rattle.std.proofs.Math.Logic.{inl, inr}

@@ -5,7 +5,7 @@ use Prim.Native.Nat.{ℕ, zero, suc, ◌+◌, ◌*◌, ◌/◌, ◌%◌, ◌<◌
 use native.Mathlib.Omega.{arith}
 use mathlib.Core.Path.{◌≡◌, refl, sym, ap, ◌∙◌}
 use mathlib.Core.Logic.{◌↔◌}
-use mathlib.Core.Bool.{Bool, true, false, ◌&&◌, and_assoc}
+use mathlib.Core.Bool.{Bool, true, false, ◌&&◌}
 use mathlib.Core.List.{List, [], ◌∷◌, ◌++◌}
 use lib.Dec.{ltb, eqb}
 use lib.ListN.{length, get_or}
@@ -14,22 +14,9 @@ use Rattle.meaning.specs.Bytes.{Bytes}
 use Rattle.meaning.specs.Cases.{by_test, both}
 use Rattle.meaning.specs.Tests.{Test, ◌is◌, succeeds, ◌and◌, holds_by}
 use Rattle.runs.specs.Keys.{numbers, row_before, row_same, row_same_is, row_itself}
-use Rattle.serial.specs.Serial.{hex_digit, node_digits, begins, a_week, a_serial_of, is_serial_of, is_origin, origin_of}
-use Rattle.serial.specs.Words.{
-  four_of,
-  word_of,
-  two_digits,
-  within,
-  both_within,
-  characters_of,
-  serial_in,
-  no_serial,
-  is_none,
-  serial_before,
-  serial_same,
-}
+use Rattle.serial.specs.Serial.{hex_digit, node_digits, begins, a_serial_of, is_serial_of}
+use Rattle.serial.specs.Words.{four_of, word_of, two_digits, characters_of, serial_in, no_serial, is_none, serial_before, serial_same}
 use Rattle.serial.specs.declared.words.Serial.{Serial}
-use Rattle.serial.proofs.Digits.{low_digit, high_digit}
 use Rattle.serial.proofs.Elements.{rest_is_its_elements}
 
 -- Tests of which each follows from the other are the same.
@@ -127,22 +114,8 @@ right_is_not_none id s right = by_test (is_none s) (λ e. absurd (zeros ((none_e
         omega (arith, ap (λ t. t.second) e)
 
 -- ---- a NodeID's digits
--- From ten on a digit is a letter, which begins 7 further.
-digit_as_summed : (digit : ℕ) → digit < 16 → hex_digit digit ≡ 0x30 + digit + 7 * ((digit + 6) / 16)
-digit_as_summed digit h =
-    by_test (ltb digit 10)
-    (λ e. let low = ltb-true digit 10 e in low_digit digit low ∙ omega arith)
-    (λ e. let high = ltb-false digit 10 e in high_digit digit high ∙ omega arith)
-
-pub two_as_summed : (high low : ℕ) → high < 16 → low < 16
-    → 0x100 * (0x30 + high + 7 * ((high + 6) / 16)) + (0x30 + low + 7 * ((low + 6) / 16)) ≡ 0x100 * hex_digit high + hex_digit low
-two_as_summed high low h k = rw (digit_as_summed high h, digit_as_summed low k)
-
 digit_fits : (digit : ℕ) → digit < 16 → hex_digit digit < 256
-digit_fits digit h = rw (digit_as_summed digit h) (omega arith)
-
-pub two_fit : (half number : ℕ) → half ≡ two_digits number → half < 0x10000
-two_fit half number e = omega (arith, digit_fits (number / 16 % 16) (omega arith), digit_fits (number % 16) (omega arith))
+digit_fits digit h = grind arith
 
 -- Six characters are a word and half of the next.
 begins_by_words : (w v n m a b c d e f : ℕ) (l : List ℕ) → b < 256 → c < 256 → d < 256 → f < 256 → n ≡ word_of a b c d → m ≡ 0x100 * e + f
@@ -174,28 +147,6 @@ digits_by_words id s =
     (digit_fits (id % 16) (omega arith))
     (rw (high, low) (omega arith))
     refl
-
--- ---- an origin
-pub week_by_order : (half : ℕ)
-    → (a_week (half / 256) (half % 256)).holds ≡ (within 0x30 0x39 (half % 256) and within 0x3031 0x3533 half).holds
-week_by_order half =
-    same_holds (a_week (half / 256) (half % 256)) (within 0x30 0x39 (half % 256) and within 0x3031 0x3533 half)
-    (λ f. (f.1.0, (omega arith, omega arith)))
-    (λ f. ((omega arith, omega arith), (f.0, (omega arith, omega arith))))
-
--- An origin is half a word, and the third.
-pub origin_by_words : (s : Serial)
-    → is_origin (origin_of (characters_of s))
-    ≡ ((both_within (s.second % 0x10000) 0x41 0x5A).holds
-    && ((both_within (s.third / 0x10000) 0x30 0x39).holds && (a_week (s.third % 0x10000 / 256) (s.third % 0x10000 % 256)).holds))
-unfolding characters_of
-origin_by_words s =
-    let a : s.second % 0x10000 / 256 ≡ s.second / 0x100 % 256 = omega arith in
-    let b : s.second % 0x10000 % 256 ≡ s.second % 256 = omega arith in
-    let c : s.third / 0x10000 / 256 ≡ s.third / 0x1000000 = omega arith in
-    let d : s.third % 0x10000 / 256 ≡ s.third / 0x100 % 256 = omega arith in
-    let e : s.third % 0x10000 % 256 ≡ s.third % 256 = omega arith in
-    rw (a, b, c, d, e) (simp and_assoc)
 
 -- ---- the order
 -- The first that differs decides.

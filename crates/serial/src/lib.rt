@@ -14,6 +14,7 @@ pub use words::Serial;
 pub fn serial_of(id: u32, origin: [u8; 6]) -> [u8; 12]
     ensures { result ≡ serial_of id origin }
 {
+    let [a, b, c, d, e, f] = origin;
     [
         hex_digit(id / 0x10_0000),
         hex_digit(id / 0x1_0000),
@@ -21,12 +22,12 @@ pub fn serial_of(id: u32, origin: [u8; 6]) -> [u8; 12]
         hex_digit(id / 0x100),
         hex_digit(id / 0x10),
         hex_digit(id),
-        origin[0],
-        origin[1],
-        origin[2],
-        origin[3],
-        origin[4],
-        origin[5],
+        a,
+        b,
+        c,
+        d,
+        e,
+        f,
     ]
 }
 
@@ -34,9 +35,8 @@ pub fn serial_of(id: u32, origin: [u8; 6]) -> [u8; 12]
 fn hex_digit(number: u32) -> u8
     ensures { result ≡ hex_digit (number % 16) }
 {
-    let digit = (number % 16) as u8;
-    if digit < 10 {
-        return 0x30 + digit;
+    match (number % 16) as u8 {
+        digit @ 0..=9 => b'0' + digit,
+        digit => b'A' + (digit - 10),
     }
-    0x37 + digit
 }

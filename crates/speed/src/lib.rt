@@ -8,3 +8,4 @@ mod recording;
 mod slots;
 mod transmitter;
 mod turns;
+mod worth;

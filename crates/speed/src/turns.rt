@@ -2,8 +2,8 @@
 use crate::slots::{SLOT, bundle, names_pulse, pulse};
 use board::{Node, Plate, Settings};
 use frame::Address;
-use node::{Answer, Reply};
-use std::num::wrapping_add_u64;
+use node::Reply;
+use refusal::Refusal;
 use travel::Pulse;
 
 // A board takes slot after slot, at the pulse that some name: the sum of the replies' bytes counted, of two bytes of
@@ -12,64 +12,42 @@ use travel::Pulse;
 pub extern "C" fn speed_board(slots: &[u8], id: u32, kind: u8, travel: u16) -> u64 {
     let mut node = powered_up(id, kind, travel);
     let mut groups = board::no_groups();
+    let (slots, _) = slots.as_chunks::<SLOT>();
     let mut total: u64 = 0;
-    let mut at: usize = 0;
-    while slots.len() - at >= SLOT {
-        if names_pulse(slots[at]) {
-            let moved = board::at_pulse(node, Pulse(pulse(slots, at)));
-            let there = moved.node;
-            node = there;
+    for slot in slots {
+        if names_pulse(slot) {
+            node = board::at_pulse(node, Pulse(pulse(slot))).node;
         }
-        let turn = node::on_frame(node, groups, bundle(slots, at));
-        let after = turn.node;
-        node = after;
-        let change = turn.change;
-        let table = board::apply(groups, change);
+        let turn = node::on_frame(node, groups, bundle(slot));
+        node = turn.node;
+        // Stays: tried, and a call's result that goes straight into an array gets no proof from the check.
+        let table = board::apply(groups, turn.change);
         groups = table;
-        let answer = turn.answer;
-        let reply = turn.reply;
-        total = wrapping_add_u64(total, worth(answer, reply));
-        at += SLOT;
+        total = total.wrapping_add(worth(turn.answer));
     }
     total
 }
 
 // A fresh board is powered up, as in C.
 fn powered_up(id: u32, kind: u8, travel: u16) -> Node {
-    let id = Address(id);
-    let travel = Pulse(travel);
-    let plate = plain();
     let settings = Settings {
-        id,
+        id: Address(id),
         kind,
-        travel,
-        plate,
+        travel: Pulse(travel),
+        plate: Plate::PLAIN,
     };
-    let started = board::power_up(Node::fresh(settings));
-    started.node
-}
-
-// The plate of a set-up that names none.
-fn plain() -> Plate {
-    Plate {
-        reference: 0,
-        letter: b'A',
-        number: 0,
-        origin: [b'A', b'A', b'0', b'0', b'0', b'1'],
-    }
+    board::power_up(Node::fresh(settings)).node
 }
 
 // The eleventh and twelfth byte of a 0Dh are the pulse's high byte and the percent.
-fn worth(answer: Answer, reply: Reply) -> u64 {
+fn worth(answer: Result<Option<Reply>, Refusal>) -> u64 {
     match answer {
-        Answer::Silent => 0,
-        Answer::Replied => {
-            wrapping_add_u64(reply.count as u64, sum(reply.bytes[10], reply.bytes[11]))
-        }
-        Answer::Refused(refusal) => refusal.number() as u64,
+        Ok(None) => 0,
+        Ok(Some(reply)) => (reply.count as u64).wrapping_add(sum(reply.bytes[10], reply.bytes[11])),
+        Err(refusal) => u64::from(refusal.number()),
     }
 }
 
 fn sum(one: u8, other: u8) -> u64 {
-    one as u64 + other as u64
+    u64::from(one) + u64::from(other)
 }

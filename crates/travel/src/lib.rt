@@ -6,26 +6,31 @@ ghost use Rattle.travel.specs.Nearest.{nearest, IsNearestOfSpan};
 ghost use Rattle.travel.specs.Position.{percent_of_pulse, pulse_of_percent};
 ghost use Rattle.travel.specs.Share.{share_of};
 
+// Stays: the tuple structs Pulse, Percent and IpIndex are a form that the project names.
+
 // Pulse 0 is the up limit, the travel the down limit.
-#[derive(Clone, Copy)]
+#[derive(Clone, Copy, Debug, PartialEq, Eq, PartialOrd, Ord)]
 pub struct Pulse(pub u16);
 
-#[derive(Clone, Copy)]
+#[derive(Clone, Copy, Debug, PartialEq, Eq, PartialOrd, Ord)]
 pub struct Percent(pub u8);
 
+// The percent of the travel itself.
+const DOWN_LIMIT: Percent = Percent(100);
+
 // IPs are numbered from 1.
-#[derive(Clone, Copy)]
+#[derive(Clone, Copy, Debug, PartialEq, Eq, PartialOrd, Ord)]
 pub struct IpIndex(pub u8);
 
 // 100 × pulse ÷ travel to the nearest whole, halves up; from the travel on, 100.
+#[tactic(auto, unfolding(crate::specs::Position::percent_of_pulse))]
 pub fn percent_of_pulse(pulse: Pulse, travel: Pulse) -> Percent
     ensures { result ≡ percent_of_pulse pulse travel }
 {
-    if pulse.0 >= travel.0 {
-        return Percent(100);
+    if pulse >= travel {
+        return DOWN_LIMIT;
     }
-    let percent = nearest_of_span(0, 100, 100 * (pulse.0 as u32), travel.0 as u32) as u8;
-    Percent(percent)
+    Percent(nearest_of_span(0, 100, 100 * u32::from(pulse.0), u32::from(travel.0)) as u8)
 }
 
 // percent × travel ÷ 100, same rounding; from 100 on, the travel.
@@ -33,11 +38,10 @@ pub fn percent_of_pulse(pulse: Pulse, travel: Pulse) -> Percent
 pub fn pulse_of_percent(percent: Percent, travel: Pulse) -> Pulse
     ensures { result ≡ pulse_of_percent percent travel }
 {
-    if percent.0 >= 100 {
+    if percent >= DOWN_LIMIT {
         return travel;
     }
-    let pulse = nearest((percent.0 as u32) * (travel.0 as u32), 100) as u16;
-    Pulse(pulse)
+    Pulse(nearest(u32::from(percent.0) * u32::from(travel.0), 100) as u16)
 }
 
 // Percent of IP i where n share the travel (SET_MOTOR_IP, function 4): 100 × i ÷ (n + 1) rounded down; above n, 100.
@@ -46,10 +50,9 @@ pub fn share_of(i: IpIndex, n: u8) -> Percent
     ensures { result ≡ share_of i n }
 {
     if i.0 > n {
-        return Percent(100);
+        return DOWN_LIMIT;
     }
-    let share = (100 * (i.0 as u16) / (n as u16 + 1)) as u8;
-    Percent(share)
+    Percent((100 * u16::from(i.0) / (u16::from(n) + 1)) as u8)
 }
 
 // The whole number of a span nearest to dividend ÷ divisor, halves up. The span is halved and products are compared,
@@ -62,6 +65,7 @@ fn nearest_of_span(first: u32, last: u32, dividend: u32, divisor: u32) -> u32
     let step = 2 * divisor;
     let mut low = first;
     let mut high = last;
+    // Stays: this halves the span and counts no index; the library's searches by halves are over slices.
     while low < high {
         let middle = (low + high + 1) / 2;
         if step * middle <= reach {

@@ -1,91 +1,70 @@
-// The line reader's commands and the writer's, and lines that are no command.
+// The line reader's commands and the writer's.
 #![tactic(auto)]
 
-use console::{Order, Said, answer, command, plainly, refused, with_bytes};
-use frame::{Address, Header, Writing};
-use line::{Answer, Reader, Stepped};
+ghost use Rattle.std.specs.Prelude.{◌≡◌, ℕ, true, length, take};
+ghost use Rattle.line.specs.Reader.{close_of, fresh, step_of};
+ghost use Rattle.wire_room.specs.Written.{is_write};
 
-// The reader after a command, and the answer.
+use console::{Rows, Said, WireCommand, first};
+use frame::Header;
+use line::{Reader, Stepped};
+
+// The line reader on the bench.
 #[derive(Clone, Copy)]
-pub struct Heard {
+pub struct WireRoom {
     pub reader: Reader,
-    pub said: Said,
 }
 
-// A fresh start has a fresh line reader.
-pub fn unheard() -> Heard {
-    Heard {
-        reader: Reader::fresh(),
-        said: plainly(answer::NO_ROW),
+impl WireRoom {
+    // A fresh start has a fresh line reader.
+    pub fn new() -> WireRoom
+        ensures { result.reader ≡ fresh }
+    {
+        WireRoom {
+            reader: Reader::fresh(),
+        }
+    }
+
+    #[tactic(auto, unfolding(crate::specs::Written::is_write))]
+    pub fn obey(&mut self, command: WireCommand<'_>, rows: &mut Rows)
+        ensures byte { (byte silence : ℕ) → command.entry ≡ WireCommand.Byte byte silence → self.new.reader ≡ (step_of self.old.reader byte silence).reader }
+        ensures close { command.entry ≡ WireCommand.Close → self.new.reader ≡ (close_of self.old.reader).reader }
+        ensures write { is_write command.entry ≡ true → self.new.reader ≡ self.old.reader }
+        ensures rows { take (length rows.old) rows.new ≡ rows.old }
+    {
+        match command {
+            WireCommand::Byte { byte, silence } => self.go_on(
+                self.reader.step(byte, silence),
+                rows,
+            ),
+            WireCommand::Close => self.go_on(self.reader.close(), rows),
+            WireCommand::Write { header, content } => put_written(header, content, rows),
+        }
+    }
+
+    fn go_on(&mut self, stepped: Stepped, rows: &mut Rows)
+        ensures reader { self.new.reader ≡ stepped.reader }
+        ensures rows { take (length rows.old) rows.new ≡ rows.old }
+    {
+        self.reader = stepped.reader;
+        let bundle = stepped.bundle;
+        match stepped.answer {
+            Ok(None) => rows.put(Said::Nothing),
+            Ok(Some((_, content))) => rows.put(Said::Frame(first(&bundle, frame_length(content)))),
+            Err(refusal) => rows.put(Said::Refused(refusal)),
+        }
     }
 }
 
-// `byte BYTE DEC`, `close`, and what leaves the reader as it is.
-pub fn at_wire(heard: Heard, order: Order, content: &[u8]) -> Heard {
-    let command = order.command;
-    let reader = heard.reader;
-    match command {
-        command::BYTE => after_step(reader.step(order.small(0), order.medium(1))),
-        command::CLOSE => after_step(reader.close()),
-        _ => Heard {
-            reader,
-            said: beside_reader(order, content),
-        },
-    }
-}
-
-fn after_step(stepped: Stepped) -> Heard {
-    let reader = stepped.reader;
-    Heard {
-        reader,
-        said: answered(stepped),
-    }
-}
-
-fn answered(stepped: Stepped) -> Said {
-    let answer = stepped.answer;
-    let bundle = stepped.bundle;
-    match answer {
-        Answer::Nothing => plainly(answer::NOTHING),
-        Answer::Frame(_, content) => with_bytes(answer::FRAME, bundle, frame_length(content)),
-        Answer::Refused(refusal) => refused(refusal),
-    }
-}
-
-// Eleven bytes beside DATA, and never over 31.
+// Eleven bytes beside DATA.
 fn frame_length(content: usize) -> usize {
-    if content > 20 {
-        return 31;
-    }
-    11 + content
+    content.saturating_add(11)
 }
 
-fn beside_reader(order: Order, content: &[u8]) -> Said {
-    let command = order.command;
-    match command {
-        command::WRITE => written(header(order), content),
-        command::BAD => plainly(answer::BAD_LINE),
-        _ => plainly(answer::NO_ROW),
-    }
-}
-
-// `write BYTE DEC DEC DEC DEC DEC HEX`
-fn header(order: Order) -> Header {
-    Header {
-        message: order.small(0),
-        ack: order.small(1) == 1,
-        sender: order.small(2),
-        receiver: order.small(3),
-        source: Address(order.large(4)),
-        destination: Address(order.large(5)),
-    }
-}
-
-fn written(header: Header, content: &[u8]) -> Said {
-    let mut buffer = [0u8; 31];
+fn put_written(header: Header, content: &[u8], rows: &mut Rows)
+    ensures { take (length rows.old) rows.new ≡ rows.old }
+{
+    let mut buffer = [0; 31];
     let writing = frame::write(&mut buffer, 0, header, content);
-    match writing {
-        Writing::Next(next) => with_bytes(answer::WIRE, buffer, next),
-        Writing::Refused(refusal) => refused(refusal),
-    }
+    rows.put(Said::wire(writing, &buffer));
 }

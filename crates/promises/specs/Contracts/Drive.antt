@@ -1,23 +1,20 @@
 -- The contracts of `board`'s motor.
 -- Assumes nothing.
-use Rattle.std.specs.Prelude.{Bool, true, false}
+use Rattle.std.specs.Prelude.{Bool, true, false, Some, None}
 use Rattle.travel.specs.declared.Pulse.{Pulse}
-use Rattle.board.specs.{
-  Drive.{moved_to, halted, at_pulse, drive_within},
-  declared.drive.{Motion.{Motion}, Motion.TheVariants.{Still, Running}, Drive.{Drive}},
-}
+use Rattle.board.specs.{Drive.{moved_to, halted, at_pulse, drive_within, Motion}, declared.drive.{Drive.{Drive}}}
 use Rattle.board.proofs.drive.Drive as Drive
 use Rattle.promises.specs.Contracts.Says.{Says}
 
 -- Power-up: not running, not blocked, direction FFh, source 0, cause FFh.
 abbrev pub powered_up_at : Pulse → Drive
 powered_up_at position =
-    record { position = position; motion = Still; direction = 0xFF; source = 0; cause = 0xFF; blocked = false }
+    record { position = position; motion = None; direction = 0xFF; source = 0; cause = 0xFF; blocked = false }
 
 -- Running to a target, or not.
 abbrev pub running : Motion → Bool
-running Still = false
-running (Running target) = true
+running None = false
+running (Some target) = true
 
 pub record DriveContracts : Type 0 where
   -- A fresh node: pulse 0, as after power-up.
@@ -40,7 +37,7 @@ pub record DriveContracts : Type 0 where
       (λ κs (drive, (cause, _)).
       record {
         position = drive.position;
-        motion = Still;
+        motion = None;
         direction = drive.direction;
         source = 0;
         cause = cause;

@@ -1,30 +1,27 @@
 -- The contracts of `board`'s sixteen IPs.
 -- Assumes nothing.
-use Rattle.std.specs.Prelude.{if◌then◌else◌, ◌-◌, ◌&&◌, leb, get_or, set, replicate}
-use Rattle.board.specs.{
-  Favourites.{shared_out, reported_ip, ips_within},
-  declared.favourites.Ip.TheVariants.{Unset},
-}
+use Rattle.std.specs.Prelude.{if◌then◌else◌, ◌-◌, ◌&&◌, leb, get_or, set, replicate, None}
+use Rattle.board.specs.Favourites.{shared_out, reported_ip, ips_within}
 use Rattle.board.proofs.favourites.Favourites as Favourites
 use Rattle.promises.specs.Contracts.Says.{Says}
 
 pub record FavouritesContracts : Type 0 where
   pub favourites_none_is :
       Says Favourites.none.Kinds.ps Favourites.none.Kinds.r Favourites.none.Reads.Pre Favourites.none.Reads.Post
-      (λ κs _. record { slots = replicate 16 (record { ip = Unset }) })
+      (λ κs _. record { slots = replicate 16 None })
   -- IPs are numbered from 1 to 16; any other number has none.
   pub ip_at_is :
       Says Favourites.ip_at.Kinds.ps Favourites.ip_at.Kinds.r Favourites.ip_at.Reads.Pre Favourites.ip_at.Reads.Post
       (λ κs (favourites, (index, _)).
       if leb 1 index.0 && leb index.0 16
-      then (get_or favourites.slots (index.0 - 1) (record { ip = Unset })).ip
-      else Unset)
+      then get_or favourites.slots (index.0 - 1) None
+      else None)
   pub with_ip_is :
       Says Favourites.with_ip.Kinds.ps Favourites.with_ip.Kinds.r
       Favourites.with_ip.Reads.Pre Favourites.with_ip.Reads.Post
       (λ κs (favourites, (index, (ip, _))).
       if leb 1 index.0 && leb index.0 16
-      then record { slots = set favourites.slots (index.0 - 1) (record { ip = ip }) }
+      then record { slots = set favourites.slots (index.0 - 1) ip }
       else favourites)
   pub shared_out_is :
       Says Favourites.shared_out.Kinds.ps Favourites.shared_out.Kinds.r

@@ -1,27 +1,23 @@
 -- The contracts of `form`: stored form 1, a motor at a time.
 -- Assumes nothing.
-use Rattle.std.specs.Prelude.{ℕ, Bool, true, false}
-use Rattle.motors.specs.declared.answer.{Answer.{Answer}, Answer.TheVariants.{Count, Refused as NotRead}}
-use Rattle.form.specs.{
-  Reading.{check_of, place_in},
-  Writing.{room_of, head_laid, motor_laid},
-  declared.writing.{Written.{Written}, Written.TheVariants.{Bytes, Refused as NotWritten}},
-}
+use Rattle.std.specs.Prelude.{ℕ, Bool, true, false, Ok, Err}
+use Rattle.motors.specs.Answer.{Answer}
+use Rattle.form.specs.{Reading.{check_of, place_in}, Writing.{room_of, head_laid, motor_laid, Written}}
 use Rattle.form.proofs as form
 use Rattle.promises.specs.Contracts.Says.{Says, SaysLent}
 
 -- Whether a form was refused, and how many motors were read.
 abbrev pub not_read : Answer → Bool
-not_read (Count n) = false
-not_read (NotRead r) = true
+not_read (Ok n) = false
+not_read (Err r) = true
 
 abbrev pub read_from : Answer → ℕ
-read_from (Count n) = n
-read_from (NotRead r) = 0
+read_from (Ok n) = n
+read_from (Err r) = 0
 
 abbrev pub not_written : Written → Bool
-not_written (Bytes n) = false
-not_written (NotWritten r) = true
+not_written (Ok n) = false
+not_written (Err r) = true
 
 pub record FormContracts : Type 0 where
   -- A form checked and read.

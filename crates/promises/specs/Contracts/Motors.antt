@@ -1,14 +1,7 @@
 -- The contracts of `motors`: a record, what a frame reports, one pass over the places, and what a call does to them.
 -- Assumes nothing.
-use Rattle.std.specs.Prelude.{ℕ, ◌+◌, ◌*◌, Bool, false, ◌&&◌, ◌||◌, leb, eqb}
-use Rattle.motors.specs.{
-  Motor.{follows_of},
-  Report.{report_of},
-  Passing.{past},
-  Found.{found_by, gathered},
-  Edit.{to_enrol, to_file, to_strike},
-  declared.{motor.Motor.{Motor}, report.Report.{Report}, report.Report.TheVariants.{Seen, Refused}},
-}
+use Rattle.std.specs.Prelude.{ℕ, ◌+◌, ◌*◌, Bool, false, ◌&&◌, ◌||◌, leb, eqb, Ok, Err}
+use Rattle.motors.specs.{Motor.{follows_of}, Report.{report_of, Report}, Passing.{past}, Found.{found_by, gathered}, Edit.{to_enrol, to_file, to_strike}, declared.{motor.Motor.{Motor}}}
 use Rattle.motors.proofs as motors
 use Rattle.motors.proofs.passing.Passing as Passing
 use Rattle.promises.specs.Contracts.Says.{Says}
@@ -19,12 +12,12 @@ without_reading line node = record { node = node; line = line; mark = 0; pulse =
 
 -- The motor that a report is about, and whether it has a reading; of a refusal none.
 abbrev pub motor_seen : Report → Motor
-motor_seen (Seen motor) = motor
-motor_seen (Refused r) = without_reading 0 0
+motor_seen (Ok motor) = motor
+motor_seen (Err r) = without_reading 0 0
 
 abbrev pub reading_seen : Report → Bool
-reading_seen (Seen motor) = eqb motor.mark 1
-reading_seen (Refused r) = false
+reading_seen (Ok motor) = eqb motor.mark 1
+reading_seen (Err r) = false
 
 pub record MotorsContracts : Type 0 where
   -- A motor without a reading; its line and NodeID as one number; row 23; a record that may stand behind another.

@@ -1,12 +1,8 @@
 -- Demand 2, the board: what a GET that no code refuses is answered.
 -- Assumes nothing.
-use Rattle.std.specs.Prelude.{ℕ, ◌/◌, ◌%◌, ◌≡◌, Bool, true, false, List, [], ◌∷◌, get_or, drop}
+use Rattle.std.specs.Prelude.{ℕ, ◌/◌, ◌%◌, ◌≡◌, Bool, true, false, List, [], ◌∷◌, get_or, drop, Some, None}
 use Rattle.travel.specs.{Position.{percent_of_pulse}, declared.Pulse.{Pulse}}
-use Rattle.board.specs.{
-  Favourites.{reported_ip},
-  Node.{status_of},
-  declared.{favourites.Ip.TheVariants.{Unset, At}, whole.Node.{Node}},
-}
+use Rattle.board.specs.{Favourites.{reported_ip}, Node.{status_of}, declared.{whole.Node.{Node}}}
 use Rattle.node.specs.declared.turn.Turn.{Turn}
 use Rattle.promises.specs.Groups.{Groups}
 use Rattle.promises.specs.Wire.{message, data_of, byte_at}
@@ -35,10 +31,10 @@ pub record Answers (n : Node) (g : Groups) (b : List ℕ) (t : Turn) : Type 1 wh
       → Posted n b t 0x0F (status_of n ∷ n.drive.direction ∷ n.drive.source ∷ n.drive.cause ∷ [])
   -- 25h: index, reserved, percent or FFh
   pub an_ip_is_told :
-      message b ≡ 0x25 → Accepted (ip_rows (data_of b)) → (p : Pulse) → ip_of n.favourites (byte_at (data_of b) 0) ≡ At p
+      message b ≡ 0x25 → Accepted (ip_rows (data_of b)) → (p : Pulse) → ip_of n.favourites (byte_at (data_of b) 0) ≡ Some p
       → Posted n b t 0x35 (byte_at (data_of b) 0 ∷ 0xFF ∷ 0xFF ∷ (percent_of_pulse p n.settings.travel).0 ∷ [])
   pub an_unset_ip_is_told_as_ffh :
-      message b ≡ 0x25 → Accepted (ip_rows (data_of b)) → ip_of n.favourites (byte_at (data_of b) 0) ≡ Unset
+      message b ≡ 0x25 → Accepted (ip_rows (data_of b)) → ip_of n.favourites (byte_at (data_of b) 0) ≡ None
       → Posted n b t 0x35 (byte_at (data_of b) 0 ∷ 0xFF ∷ 0xFF ∷ 0xFF ∷ [])
   -- 26h: status, holder in three bytes, priority, saved
   pub the_lock_is_told :

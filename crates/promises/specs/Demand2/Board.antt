@@ -1,31 +1,17 @@
 -- Demand 2, the board: it changes and replies exactly as the message table says and does nothing for a frame not meant
 -- for it.
 -- Assumes nothing.
-use Rattle.std.specs.Prelude.{ℕ, ◌≤◌, ◌≡◌, ◌↔◌, true, List, [], ◌∷◌}
+use Rattle.std.specs.Prelude.{ℕ, ◌≤◌, ◌≡◌, ◌↔◌, true, List, [], ◌∷◌, Some}
 use Rattle.travel.specs.declared.Pulse.{Pulse}
-use Rattle.board.specs.{
-  Settings.{in_range},
-  Node.{sound, status_of},
-  Events.{set_up, after_pulse, after_blocked, after_cleared, after_power_up},
-  Groups.{no_groups, applied},
-  declared.{
-    drive.Motion.TheVariants.{Running},
-    settings.Settings.{Settings},
-    whole.Node.{Node},
-    groups.Change.TheVariants.{Put},
-  },
-}
-use Rattle.node.specs.{
-  Frames.{turn_of},
-  declared.turn.Answer.TheVariants.{Replied},
-}
+use Rattle.board.specs.{Settings.{in_range}, Node.{sound, status_of}, Events.{set_up, after_pulse, after_blocked, after_cleared, after_power_up}, Groups.{no_groups, applied, put}, declared.{settings.Settings.{Settings}, whole.Node.{Node}}}
+use Rattle.node.specs.Frames.{turn_of}
 use Rattle.meaning.specs.Membership.{IsOneOf}
 use Rattle.promises.specs.Wire.{FrameRules, message}
 use Rattle.promises.specs.BoardInRange.{SettingsInRange, BoardInRange}
 use Rattle.promises.specs.Groups.{Groups}
 use Rattle.promises.specs.Typed.{SettingsTyped, Typed, TypedTable}
 use Rattle.promises.specs.Meant.{replies, Meant}
-use Rattle.promises.specs.Reply.{sent, ignored, Proper, Untouched}
+use Rattle.promises.specs.Reply.{sent, ignored, reply_in, Replied, Proper, Untouched}
 use Rattle.promises.specs.Rows.{◌when◌, FirstOf}
 use Rattle.promises.specs.Demand2.Events.{GroupTable, Events}
 use Rattle.promises.specs.Demand2.Codes.{Codes}
@@ -53,7 +39,7 @@ pub record SinceSetUp (n : Node) (g : Groups) : Type 0 where
   pub its_numbers_fit : Typed n
   pub its_table_fits : TypedTable g
   pub all_that_it_sends_is_a_reply :
-      (b : List ℕ) → (turn_of n g b).answer ≡ Replied → IsOneOf (message (sent (turn_of n g b).reply)) replies
+      (b : List ℕ) → Replied (turn_of n g b) → IsOneOf (message (sent (reply_in (turn_of n g b)))) replies
   pub every_reply_of_it_is_a_frame_to_the_asker : (b : List ℕ) → Proper n b (turn_of n g b)
 
 -- Of a board in range; one that is not is refused by row 33.
@@ -65,7 +51,7 @@ pub record Board : Type 1 where
       → FirstOf
       (3 when (n.lock.locked ≡ true)
       ∷ 2 when (n.drive.blocked ≡ true)
-      ∷ 1 when ((target : Pulse) × (n.drive.motion ≡ Running target))
+      ∷ 1 when ((target : Pulse) × (n.drive.motion ≡ Some target))
       ∷ [])
       (status_of n)
   pub not_meant_does_nothing :
@@ -76,13 +62,13 @@ pub record Board : Type 1 where
   -- so that the table's own function is never asked for an entry that it does not have
   pub only_the_sixteen_entries_are_put :
       (n : Node) (g : Groups) (b : List ℕ) (index low middle high : ℕ)
-      → (turn_of n g b).change ≡ Put index low middle high → index ≤ 15
+      → (turn_of n g b).change ≡ Some (put index low middle high) → index ≤ 15
   pub a_reply_gets_no_reply : (n : Node) (g : Groups) (b : List ℕ) → IsOneOf (message b) replies
       → Untouched n (turn_of n g b)
   -- so that two boards never chatter; of numbers that fit their types, as all numbers of the code do
   pub all_that_is_sent_is_a_reply :
-      (n : Node) (g : Groups) (b : List ℕ) → BoardInRange n → Typed n → TypedTable g → (turn_of n g b).answer ≡ Replied
-      → IsOneOf (message (sent (turn_of n g b).reply)) replies
+      (n : Node) (g : Groups) (b : List ℕ) → BoardInRange n → Typed n → TypedTable g → Replied (turn_of n g b)
+      → IsOneOf (message (sent (reply_in (turn_of n g b)))) replies
   -- from this node to the asker, with zeros behind it; in silence and when refused there is none
   pub every_reply_is_a_frame_to_the_asker :
       (n : Node) (g : Groups) (b : List ℕ) → BoardInRange n → Typed n → TypedTable g → Proper n b (turn_of n g b)

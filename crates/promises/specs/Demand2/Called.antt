@@ -1,13 +1,9 @@
 -- Demand 2, the board: an IP is called by the number that it was stored under (2026-03). Two turns: a SET_MOTOR_IP that no
 -- code refuses, then a MOVETO.
 -- Assumes nothing.
-use Rattle.std.specs.Prelude.{ℕ, ◌+◌, ◌*◌, ◌/◌, ◌≤◌, ◌<◌, ◌≡◌, false, List, length}
+use Rattle.std.specs.Prelude.{ℕ, ◌+◌, ◌*◌, ◌/◌, ◌≤◌, ◌<◌, ◌≡◌, false, List, length, Some, None}
 use Rattle.travel.specs.{Position.{pulse_of_percent}, declared.Pulse.{Pulse}}
-use Rattle.board.specs.declared.{
-  drive.Motion.TheVariants.{Still, Running},
-  groups.Change.TheVariants.{Keep},
-  whole.Node.{Node},
-}
+use Rattle.board.specs.declared.whole.Node.{Node}
 use Rattle.node.specs.{Frames.{turn_of}, declared.turn.Turn.{Turn}}
 use Rattle.promises.specs.Groups.{Groups}
 use Rattle.promises.specs.Wire.{message, data_of, byte_at, word_at}
@@ -44,13 +40,13 @@ pub record Calls (n : Node) (g : Groups) (b : List ℕ) (number : ℕ) : Type 0 
 pub record GoesTo (n : Node) (b : List ℕ) (t : Turn) (p : Pulse) : Type 0 where
   pub runs_down :
       n.drive.position.0 < p.0
-      → CarriedOut n b t (with_drive n (drive n.drive.position (Running p) 0 1 1 false)) Keep
+      → CarriedOut n b t (with_drive n (drive n.drive.position (Some p) 0 1 1 false)) None
   pub runs_up :
       p.0 < n.drive.position.0
-      → CarriedOut n b t (with_drive n (drive n.drive.position (Running p) 1 1 1 false)) Keep
+      → CarriedOut n b t (with_drive n (drive n.drive.position (Some p) 1 1 1 false)) None
   pub stands :
       n.drive.position.0 ≡ p.0
-      → CarriedOut n b t (with_drive n (drive n.drive.position Still n.drive.direction 0 0 false)) Keep
+      → CarriedOut n b t (with_drive n (drive n.drive.position None n.drive.direction 0 0 false)) None
 
 -- The board as a SET_MOTOR_IP has left it.
 pub record OnceStored (n : Node) (b : List ℕ) (after : Node) : Type 0 where

@@ -1,8 +1,8 @@
 -- Demand 2, the board: which code refuses a message, and when (document 01, under the message table, and 2026-01). Each table has
 -- the codes of one message in order of checking.
 -- Assumes nothing.
-use Rattle.std.specs.Prelude.{ℕ, ◌≤◌, ◌<◌, ◌≡◌, ◌≢◌, ◌⊎◌, true, List, [], ◌∷◌, length}
-use Rattle.board.specs.declared.{favourites.Ip.TheVariants.{Unset}, whole.Node.{Node}}
+use Rattle.std.specs.Prelude.{ℕ, ◌≤◌, ◌<◌, ◌≡◌, ◌≢◌, ◌⊎◌, true, List, [], ◌∷◌, length, None}
+use Rattle.board.specs.declared.whole.Node.{Node}
 use Rattle.node.specs.declared.turn.Turn.{Turn}
 use Rattle.meaning.specs.Membership.{IsOneOf}
 use Rattle.promises.specs.Wire.{message, data_of, byte_at, word_at}
@@ -34,7 +34,7 @@ move_rows n d =
     ∷ 0x01 when (¬ IsAMove (byte_at d 0) (word_at d 1))
     ∷ 0x20 when (n.lock.locked ≡ true)
     ∷ 0xFF when (n.drive.blocked ≡ true)
-    ∷ 0x23 when ((byte_at d 0 ≡ 2) × (ip_of n.favourites (word_at d 1) ≡ Unset))
+    ∷ 0x23 when ((byte_at d 0 ≡ 2) × (ip_of n.favourites (word_at d 1) ≡ None))
     ∷ []
 
 -- SET_MOTOR_IP's function, index and value: 4 shares out 1 to 16 IPs; with an index of 1 to 16, 0 deletes, 1 sets here,
@@ -49,7 +49,7 @@ abbrev pub set_ip_rows : Node → List ℕ → List Row
 set_ip_rows n d =
     0x11 when (length d < 4)
     ∷ 0x01 when (¬ SetsAnIp (byte_at d 0) (byte_at d 1) (word_at d 2))
-    ∷ 0x23 when ((byte_at d 0 ≡ 0) × (ip_of n.favourites (byte_at d 1) ≡ Unset))
+    ∷ 0x23 when ((byte_at d 0 ≡ 0) × (ip_of n.favourites (byte_at d 1) ≡ None))
     ∷ []
 
 -- 25h: index 1 to 16.

@@ -1,11 +1,7 @@
 -- Demand 2, the board: one MOVETO of which all that the effects ask is so, worked out.
 -- Assumes nothing.
-use Rattle.std.specs.Prelude.{ℕ, false, List, [], ◌∷◌}
-use Rattle.board.specs.declared.{
-  drive.Motion.TheVariants.{Running},
-  groups.Change.TheVariants.{Keep},
-  whole.Node.{Node},
-}
+use Rattle.std.specs.Prelude.{ℕ, false, List, [], ◌∷◌, Some, None}
+use Rattle.board.specs.declared.whole.Node.{Node}
 use Rattle.node.specs.Frames.{turn_of}
 use Rattle.promises.specs.Wire.{data_of}
 use Rattle.promises.specs.BoardParts.{address, pulse, plain_plate, drive, empty_table, with_drive, fresh_node}
@@ -28,4 +24,4 @@ pub record Example : Type 1 where
   pub it_is_aimed_at_the_down_limit : AimedAt new_board (data_of move_down) (pulse 1000)
   pub so_the_motor_runs_down :
       CarriedOut new_board move_down (turn_of new_board empty_table move_down)
-      (with_drive new_board (drive (pulse 0) (Running (pulse 1000)) 0 1 1 false)) Keep
+      (with_drive new_board (drive (pulse 0) (Some (pulse 1000)) 0 1 1 false)) None

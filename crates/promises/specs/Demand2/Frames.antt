@@ -1,17 +1,8 @@
 -- Demand 2, frames: a bundle is a frame exactly when the SDN rules hold, and is read as its bytes say; each byte
 -- written is as header and DATA say; a frame written again gives its own bytes.
 -- Assumes nothing.
-use Rattle.std.specs.Prelude.{ℕ, ◌+◌, ◌-◌, ◌*◌, ◌/◌, ◌%◌, ◌≤◌, ◌<◌, ◌≡◌, ◌≢◌, ◌↔◌, true, false, List, length, get_or, take, drop}
-use Rattle.frame.specs.{
-  Layout.{header_of, data_count as count_handed_out, data_of as data_handed_out},
-  Reading.{IsFrame, reading_of},
-  Writing.{writing_of, buffer_after},
-  declared.{
-    header.Header.{Header},
-    reading.Reading.TheVariants.{Frame},
-    writing.Writing.TheVariants.{Next},
-  },
-}
+use Rattle.std.specs.Prelude.{ℕ, ◌+◌, ◌-◌, ◌*◌, ◌/◌, ◌%◌, ◌≤◌, ◌<◌, ◌≡◌, ◌≢◌, ◌↔◌, true, false, List, length, get_or, take, drop, Ok}
+use Rattle.frame.specs.{Layout.{header_of, data_count as count_handed_out, data_of as data_handed_out}, Reading.{IsFrame, reading_of}, Writing.{writing_of, buffer_after}, declared.{header.Header.{Header}}}
 use Rattle.promises.specs.Wire.{
   Bytes,
   inverted,
@@ -71,7 +62,7 @@ pub record Frames : Type 0 where
   pub frame_exactly_when_the_rules_hold : (b : List ℕ) → FrameRules b ↔ (read_number (reading_of b) ≡ 0)
   pub a_frame_is_read_as_it_says :
       (b : List ℕ) → FrameRules b
-      → (h : Header) × ((count : ℕ) × ((reading_of b ≡ Frame h count) × FrameSays b h count))
+      → (h : Header) × ((count : ℕ) × ((reading_of b ≡ Ok (h, count)) × FrameSays b h count))
   pub data_is_all_but_11_bytes : (b : List ℕ) → length (data_of b) ≡ length b - 11
   pub each_byte_of_data_is_inverted : (b : List ℕ) (i : ℕ) → i < length b - 11
       → get_or (data_of b) i 0 ≡ 255 - get_or b (9 + i) 0
@@ -80,7 +71,7 @@ pub record Frames : Type 0 where
   pub a_header_in_other_words : (b : List ℕ) → FrameSays b (header_of b) (count_handed_out b)
   pub data_in_other_words : (b : List ℕ) → data_handed_out b ≡ data_of b
   pub written_again_it_gives_its_own_bytes :
-      (b : List ℕ) → Bytes b → (h : Header) (count : ℕ) → reading_of b ≡ Frame h count
+      (b : List ℕ) → Bytes b → (h : Header) (count : ℕ) → reading_of b ≡ Ok (h, count)
       → (buffer : List ℕ) (place : ℕ) → place + length b ≤ length buffer
       → take (length b) (drop place (buffer_after buffer place h (data_of b))) ≡ b
   pub written_exactly_when_in_range :
@@ -92,11 +83,11 @@ pub record Frames : Type 0 where
   pub frame_written_is_read :
       (buffer : List ℕ) (place : ℕ) (h : Header) (d : List ℕ) → CanBeWritten (length buffer) place h d
       → h.message < 256 → Bytes d
-      → (reading_of (take (11 + length d) (drop place (buffer_after buffer place h d))) ≡ Frame h (length d))
+      → (reading_of (take (11 + length d) (drop place (buffer_after buffer place h d))) ≡ Ok (h, length d))
       × (data_of (take (11 + length d) (drop place (buffer_after buffer place h d))) ≡ d)
   pub the_answer_is_the_place_after_the_frame :
       (buffer : List ℕ) (place : ℕ) (h : Header) (d : List ℕ) → CanBeWritten (length buffer) place h d
-      → writing_of (length buffer) place h d ≡ Next (place + (11 + length d))
+      → writing_of (length buffer) place h d ≡ Ok (place + (11 + length d))
   pub no_byte_before_the_frame_is_changed :
       (buffer : List ℕ) (place : ℕ) (h : Header) (d : List ℕ) → CanBeWritten (length buffer) place h d
       → take place (buffer_after buffer place h d) ≡ take place buffer

@@ -1,32 +1,22 @@
 -- Demand 2, the line reader: which byte joins the open bundle, which ends it, and what is handed out when it ends.
 -- Assumes nothing.
-use Rattle.std.specs.Prelude.{ℕ, ◌+◌, ◌-◌, ◌≤◌, ◌<◌, ◌≡◌, ◌≢◌, List, ◌∷◌, ◌++◌, length, replicate}
+use Rattle.std.specs.Prelude.{ℕ, ◌+◌, ◌-◌, ◌≤◌, ◌<◌, ◌≡◌, ◌≢◌, List, ◌∷◌, ◌++◌, length, replicate, Ok, Err, Some, None}
 use Rattle.refusal.specs.declared.Refusal.{Refusal}
-use Rattle.frame.specs.{
-  Reading.{reading_of},
-  declared.{header.Header.{Header}, reading.Reading.{Reading}},
-}
-use Rattle.line.specs.{
-  Reader.{fresh, step_of, close_of, ran_of},
-  declared.reader.{
-    Reader.{Reader},
-    Answer.TheVariants.{Nothing, Frame, Refused},
-    Stepped.{Stepped},
-  },
-}
+use Rattle.frame.specs.{Reading.{reading_of}, declared.{header.Header.{Header}}}
+use Rattle.line.specs.{Reader.{fresh, step_of, close_of, ran_of}, declared.reader.{Reader.{Reader}, Stepped.{Stepped}}}
 use Rattle.promises.specs.ReaderInRange.{ReaderInRange, open_bytes, zeros31, none_open, begun_with, without_answer}
 
 -- What is handed out when the open bundle ends.
 pub record HandedOut (r : Reader) (s : Stepped) : Type 0 where
-  pub an_empty_bundle_is_never_reported : r.count ≡ 0 → (s.answer ≡ Nothing) × (s.bundle ≡ zeros31)
+  pub an_empty_bundle_is_never_reported : r.count ≡ 0 → (s.answer ≡ (Ok None)) × (s.bundle ≡ zeros31)
   pub a_frame_has_its_count_of_data_and_its_bytes_then_zeros :
-      (h : Header) (n : ℕ) → r.count ≤ 31 → reading_of (open_bytes r) ≡ Reading.Frame h n
-      → (s.answer ≡ Frame h n)
+      (h : Header) (n : ℕ) → r.count ≤ 31 → reading_of (open_bytes r) ≡ Ok (h, n)
+      → (s.answer ≡ Ok (Some (h, n)))
       × ((n ≡ r.count - 11) × (s.bundle ≡ open_bytes r ++ replicate (31 - r.count) 0))
   pub a_refused_bundle_has_no_bytes :
-      (q : Refusal) → r.count ≢ 0 → r.count ≤ 31 → reading_of (open_bytes r) ≡ Reading.Refused q
-      → (s.answer ≡ Refused q) × (s.bundle ≡ zeros31)
-  pub over_31_bytes_are_too_long : 31 < r.count → (s.answer ≡ Refused Refusal.TooLong) × (s.bundle ≡ zeros31)
+      (q : Refusal) → r.count ≢ 0 → r.count ≤ 31 → reading_of (open_bytes r) ≡ Err q
+      → (s.answer ≡ Err q) × (s.bundle ≡ zeros31)
+  pub over_31_bytes_are_too_long : 31 < r.count → (s.answer ≡ Err Refusal.TooLong) × (s.bundle ≡ zeros31)
 
 -- What a byte, with the silence before it, and the end of the recording make of a reader.
 pub record Reads (r : Reader) : Type 0 where
@@ -48,7 +38,7 @@ pub record Reads (r : Reader) : Type 0 where
 
 -- Bytes are handed out with a frame alone.
 abbrev pub NoBytesWithoutAFrame : Stepped → Type 0
-NoBytesWithoutAFrame s = ((h : Header) (n : ℕ) → s.answer ≢ Frame h n) → s.bundle ≡ zeros31
+NoBytesWithoutAFrame s = ((h : Header) (n : ℕ) → s.answer ≢ Ok (Some (h, n))) → s.bundle ≡ zeros31
 
 pub record LineReader : Type 0 where
   pub a_fresh_reader_has_no_bundle_open : fresh ≡ none_open

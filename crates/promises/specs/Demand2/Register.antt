@@ -1,20 +1,17 @@
 -- Demand 2, the register: each reading is filed under line AND NodeID, and no other motor's record is touched.
 -- Assumes nothing.
-use Rattle.std.specs.Prelude.{ℕ, ◌+◌, ◌*◌, ◌<◌, ◌≡◌, ◌≢◌, ◌↔◌, List}
+use Rattle.std.specs.Prelude.{ℕ, ◌+◌, ◌*◌, ◌<◌, ◌≡◌, ◌≢◌, ◌↔◌, List, Ok, Err}
 use Rattle.std.proofs.Math.Option.{none, some}
-use Rattle.motors.specs.{
-  Register.{found},
-  Filing.{filed_of, struck_of},
-  declared.{motor.Motor.{Motor}, answer.Answer.{Answer}, answer.Answer.TheVariants.{Count, Refused}},
-}
+use Rattle.motors.specs.{Register.{found}, Filing.{filed_of, struck_of}, declared.{motor.Motor.{Motor}}}
 use Rattle.promises.specs.Wire.{raw, message, source}
 use Rattle.promises.specs.RegisterInRange.{Holds, no_motors, at, RegisterInRange}
 use Rattle.promises.specs.Fileable.{IsHeld, Fileable, Strikeable}
+use Rattle.motors.specs.Answer.{Answer}
 
 -- How many motors are held after a call: as many as it answers, or as before where it refuses.
 abbrev pub held_after : (before : ℕ) → Answer → ℕ
-held_after before (Count n) = n
-held_after before (Refused refusal) = before
+held_after before (Ok n) = n
+held_after before (Err refusal) = before
 
 -- What holds when a bundle from a line is filed in a run with its count: then `n` motors are held, in the run `after`.
 pub record Filed (run : List Motor) (count line : ℕ) (b : List ℕ) (after : List Motor) (n : ℕ) : Type 0 where
@@ -56,15 +53,15 @@ pub record Register : Type 0 where
       → ((at run place).node ≢ 0) ↔ (place < count)
   pub filed_exactly_when_fileable :
       (run : List Motor) (count line : ℕ) (b : List ℕ)
-      → Fileable run count line b ↔ ((n : ℕ) × ((filed_of run count line b).answer ≡ Count n))
+      → Fileable run count line b ↔ ((n : ℕ) × ((filed_of run count line b).answer ≡ Ok n))
   pub what_is_filed :
-      (run : List Motor) (count line : ℕ) (b : List ℕ) (n : ℕ) → (filed_of run count line b).answer ≡ Count n
+      (run : List Motor) (count line : ℕ) (b : List ℕ) (n : ℕ) → (filed_of run count line b).answer ≡ Ok n
       → Filed run count line b (filed_of run count line b).motors n
   pub struck_out_exactly_when_held :
       (run : List Motor) (count line node : ℕ)
-      → Strikeable run count line node ↔ ((n : ℕ) × ((struck_of run count line node).answer ≡ Count n))
+      → Strikeable run count line node ↔ ((n : ℕ) × ((struck_of run count line node).answer ≡ Ok n))
   pub what_is_struck_out :
-      (run : List Motor) (count line node n : ℕ) → (struck_of run count line node).answer ≡ Count n
+      (run : List Motor) (count line node n : ℕ) → (struck_of run count line node).answer ≡ Ok n
       → StruckOut run count line node (struck_of run count line node).motors n
   -- row 19 never applies after a call, done or refused: in order, in range, zeros behind the records held
   pub register_once_sound_always_sound :

@@ -1,12 +1,8 @@
 -- Demand 2, the stored form: each byte of it, what is written is read, and what is read is written.
 -- Assumes nothing.
-use Rattle.std.specs.Prelude.{ℕ, ◌+◌, ◌*◌, ◌/◌, ◌%◌, ◌≤◌, ◌<◌, ◌≡◌, List, [], ◌∷◌, ◌++◌, length, take, drop}
-use Rattle.motors.specs.declared.{motor.Motor.{Motor}, answer.Answer.TheVariants.{Count}}
-use Rattle.form.specs.{
-  Reading.{read_of},
-  Writing.{written_of, buffer_after as form_written},
-  declared.writing.Written.TheVariants.{Bytes as Written},
-}
+use Rattle.std.specs.Prelude.{ℕ, ◌+◌, ◌*◌, ◌/◌, ◌%◌, ◌≤◌, ◌<◌, ◌≡◌, List, [], ◌∷◌, ◌++◌, length, take, drop, Ok}
+use Rattle.motors.specs.declared.motor.Motor.{Motor}
+use Rattle.form.specs.{Reading.{read_of}, Writing.{written_of, buffer_after as form_written}}
 use Rattle.promises.specs.Wire.{Bytes}
 use Rattle.promises.specs.RegisterInRange.{Holds, at, RegisterInRange}
 use Rattle.promises.specs.StoredBytes.{
@@ -38,33 +34,33 @@ pub record Stored (run : List Motor) (count : ℕ) (b : List ℕ) : Type 0 where
 
 -- Of bytes below 256 and pulses of two bytes, as all of the code are.
 pub record StoredForm : Type 0 where
-  pub what_is_read : (run : List Motor) (b : List ℕ) (n : ℕ) → (read_of run b).answer ≡ Count n
+  pub what_is_read : (run : List Motor) (b : List ℕ) (n : ℕ) → (read_of run b).answer ≡ Ok n
       → Restored b n (read_of run b).motors
   pub what_is_written :
-      (run : List Motor) (count n : ℕ) (buffer : List ℕ) → written_of run count (length buffer) ≡ Written n
+      (run : List Motor) (count n : ℕ) (buffer : List ℕ) → written_of run count (length buffer) ≡ Ok n
       → Stored run count (form_written run count buffer)
   pub form_written_is_read :
       (run : List Motor) (count : ℕ) → RegisterInRange run count
       → ((place : ℕ) → place < count → (at run place).pulse < 65536)
       → (buffer : List ℕ) → 3 + 11 * count ≤ length buffer → (other : List Motor) → length other ≡ 256
       → read_of other (take (3 + 11 * count) (form_written run count buffer))
-      ≡ record { motors = run; answer = Count count }
+      ≡ record { motors = run; answer = Ok count }
   pub what_is_read_is_written :
-      (run : List Motor) (b : List ℕ) (n : ℕ) → (read_of run b).answer ≡ Count n → Bytes b
+      (run : List Motor) (b : List ℕ) (n : ℕ) → (read_of run b).answer ≡ Ok n → Bytes b
       → (buffer : List ℕ) → length b ≤ length buffer
-      → (written_of (read_of run b).motors n (length buffer) ≡ Written (length b))
+      → (written_of (read_of run b).motors n (length buffer) ≡ Ok (length b))
       × (form_written (read_of run b).motors n buffer ≡ b ++ drop (length b) buffer)
   pub a_form_has_3_bytes_and_11_a_motor :
-      (run : List Motor) (count n : ℕ) (buffer : List ℕ) → written_of run count (length buffer) ≡ Written n
+      (run : List Motor) (count n : ℕ) (buffer : List ℕ) → written_of run count (length buffer) ≡ Ok n
       → n ≡ 3 + 11 * count
   pub no_byte_behind_the_form_is_changed :
-      (run : List Motor) (count n : ℕ) (buffer : List ℕ) → written_of run count (length buffer) ≡ Written n
+      (run : List Motor) (count n : ℕ) (buffer : List ℕ) → written_of run count (length buffer) ≡ Ok n
       → drop n (form_written run count buffer) ≡ drop n buffer
   pub the_buffer_keeps_its_length :
       (run : List Motor) (count : ℕ) (buffer : List ℕ) → length (form_written run count buffer) ≡ length buffer
   pub the_count_is_the_one_stored :
-      (run : List Motor) (b : List ℕ) (n : ℕ) → (read_of run b).answer ≡ Count n → n ≡ stored_count b
-  pub what_is_read_is_sound : (run : List Motor) (b : List ℕ) (n : ℕ) → (read_of run b).answer ≡ Count n
+      (run : List Motor) (b : List ℕ) (n : ℕ) → (read_of run b).answer ≡ Ok n → n ≡ stored_count b
+  pub what_is_read_is_sound : (run : List Motor) (b : List ℕ) (n : ℕ) → (read_of run b).answer ≡ Ok n
       → RegisterInRange (read_of run b).motors n
   -- row 19 never applies after a call, done or refused
   pub a_sound_register_stays_sound :

@@ -2,44 +2,9 @@
 -- a message exactly when it is a frame that says it; a message is written as the frame writer writes its MSG and DATA;
 -- writing and reading undo each other.
 -- Assumes nothing.
-use Rattle.std.specs.Prelude.{ℕ, ◌+◌, ◌/◌, ◌%◌, ◌≤◌, ◌≡◌, ◌≢◌, ◌↔◌, true, List, [], ◌∷◌, length, take, drop}
-use Rattle.frame.specs.{
-  Writing.{writing_of, buffer_after as frame_written},
-  declared.{header.Header.{Header}, writing.Writing.TheVariants.{Next}},
-}
-use Rattle.rts.specs.{
-  Spelling.{spelled_by},
-  Table.{number_of, data_of as content_of, in_range},
-  Reading.{received_of},
-  Writing.{written_of, buffer_after},
-  declared.{
-    envelope.Envelope.{Envelope},
-    message.Message.{Message},
-    message.Message.TheVariants.{
-      CtrlPosition,
-      CtrlTilt,
-      CtrlDim,
-      SetChannelMode,
-      SetTiltFramecount,
-      SetDimFramecount,
-      SetSunAuto,
-      SetDctLock,
-      SetChannel,
-      SetOpenProg,
-      SetIp,
-      GetChannelMode,
-      GetTiltFramecount,
-      GetDimFramecount,
-      GetDctLock,
-      PostChannelMode,
-      PostTiltFramecount,
-      PostDimFramecount,
-      PostDctLock,
-    },
-    message.Spelled.{Spelled},
-    reading.Received.{Received},
-  },
-}
+use Rattle.std.specs.Prelude.{ℕ, ◌+◌, ◌/◌, ◌%◌, ◌≤◌, ◌≡◌, ◌≢◌, ◌↔◌, true, List, [], ◌∷◌, length, take, drop, Ok, Some, None}
+use Rattle.frame.specs.{Writing.{writing_of, buffer_after as frame_written}, declared.{header.Header.{Header}}}
+use Rattle.rts.specs.{Spelling.{spelled_by}, Table.{number_of, data_of as content_of, in_range}, Reading.{received_of}, Writing.{written_of, buffer_after}, declared.{envelope.Envelope.{Envelope}, message.Message.{Message}, message.Message.TheVariants.{CtrlPosition, CtrlTilt, CtrlDim, SetChannelMode, SetTiltFramecount, SetDimFramecount, SetSunAuto, SetDctLock, SetChannel, SetOpenProg, SetIp, GetChannelMode, GetTiltFramecount, GetDimFramecount, GetDctLock, PostChannelMode, PostTiltFramecount, PostDimFramecount, PostDctLock}}}
 use Rattle.promises.specs.Wire.{
   Bytes,
   message,
@@ -203,16 +168,16 @@ pub record Transmitter : Type 0 where
   -- which message four bytes spell
   pub a_msg_and_four_bytes_spell_the_message_whose_data_they_begin_with :
       (number : ℕ) (fields : List ℕ) (m : Message) → length fields ≡ 4
-      → (spelled_by number fields ≡ Spelled.Message m)
+      → (spelled_by number fields ≡ Some m)
       ↔ ((number_of m ≡ number) × (take (length (content_of m)) fields ≡ content_of m))
   pub any_other_msg_is_unlisted :
       (number : ℕ) (fields : List ℕ)
-      → (spelled_by number fields ≡ Spelled.Unlisted) ↔ ((m : Message) → MSG m ≢ number)
+      → (spelled_by number fields ≡ None) ↔ ((m : Message) → MSG m ≢ number)
   pub one_message_for_msg_and_data :
       (m other : Message) → number_of m ≡ number_of other → content_of m ≡ content_of other → m ≡ other
   -- read
   pub a_message_is_read_exactly_when_a_frame_says_it :
-      (b : List ℕ) (e : Envelope) (m : Message) → (received_of b ≡ Received.Message e m) ↔ MessageSays b e m
+      (b : List ℕ) (e : Envelope) (m : Message) → (received_of b ≡ Ok (e, m)) ↔ MessageSays b e m
   -- written, in range: the frame writer's answer and its bytes, whatever else it is asked
   pub in_range_it_is_written_by_the_frame_writer :
       (buffer : List ℕ) (place : ℕ) (e : Envelope) (m : Message) → InRange m
@@ -225,7 +190,7 @@ pub record Transmitter : Type 0 where
   pub the_answer_is_the_place_after_the_message :
       (buffer : List ℕ) (place : ℕ) (e : Envelope) (m : Message) → InRange m
       → CanBeWritten (length buffer) place (header_of e m) (content_of m)
-      → written_of (length buffer) place e m ≡ Next (place + (11 + length (content_of m)))
+      → written_of (length buffer) place e m ≡ Ok (place + (11 + length (content_of m)))
   pub no_byte_before_the_message_is_changed :
       (buffer : List ℕ) (place : ℕ) (e : Envelope) (m : Message)
       → take place (buffer_after buffer place e m) ≡ take place buffer
@@ -238,8 +203,8 @@ pub record Transmitter : Type 0 where
       (buffer : List ℕ) (place : ℕ) (e : Envelope) (m : Message) → InRange m
       → CanBeWritten (length buffer) place (header_of e m) (content_of m)
       → received_of (take (11 + length (content_of m)) (drop place (buffer_after buffer place e m)))
-      ≡ Received.Message e m
+      ≡ Ok (e, m)
   pub a_message_read_and_written_again_gives_its_own_bytes :
-      (b : List ℕ) → Bytes b → (e : Envelope) (m : Message) → received_of b ≡ Received.Message e m
+      (b : List ℕ) → Bytes b → (e : Envelope) (m : Message) → received_of b ≡ Ok (e, m)
       → (buffer : List ℕ) (place : ℕ) → place + length b ≤ length buffer
       → take (length b) (drop place (buffer_after buffer place e m)) ≡ b

@@ -1,36 +1,25 @@
--- An entry that is the group decides, and any other leaves it to the entries behind it.
+-- The first entry that is the group ends the search.
 -- Assumes nothing.
-use Rattle.std.proofs.Common.{◌≡◌, ℕ, ◌+◌, ◌<◌, ◌≤◌, true, false, [], length, get_or, drop, sym, ◌∙◌, arith, add-one, drop-cons}
-use Rattle.std.proofs.Math.ListN.{drop_of_length-le}
+use Rattle.std.proofs.Common.{rules, tests, ◌≡◌, ◌∙◌, refl, true, false, [], ◌∷◌}
+use Rattle.std.specs.Prelude.{if◌then◌else◌, Bool, ◌||◌}
+use Rattle.std.specs.List.{list_any}
+use Rattle.std.proofs.lemmas.Iterator.{YieldsList-from_slice}
+use Rattle.std.proofs.lemmas.Iterator.Search.{any_from_yields_List}
 use Rattle.frame.specs.declared.address.Address.{Address}
 use Rattle.board.specs.Groups.{Groups, is_entry_of, in_table}
 use Rattle.board.proofs.groups.in_table.Goals as goal
 
-module _ (source : Address) (l : Groups) (i : ℕ) where
-  hit : i < length l → is_entry_of (get_or l i []) source ≡ true → in_table source (drop i l) ≡ true
-  unfolding in_table
-  hit h e = rw (drop-cons l i [], e)
+either_one : (here further : Bool) → (here || further) ≡ (if here then true else further)
+either_one true further = refl
+either_one false further = refl
 
-  miss : i < length l → is_entry_of (get_or l i []) source ≡ false → in_table source (drop i l) ≡ in_table source (drop (i + 1) l)
-  unfolding in_table
-  miss h e = rw (drop-cons l i [], e, add-one)
-
-  none_left : length l ≤ i → in_table source (drop i l) ≡ false
-  unfolding in_table
-  none_left h = rw drop_of_length-le
-
-pub returns-then-is_entry_of : goal.returns-then-is_entry_of
-returns-then-is_entry_of c =
-    sym (hit c.args.source c.args.groups c.loop-place.place (omega arith) (sym c.is_entry_of.ensures ∙ c.if-is_entry_of.true))
-    ∙ c.loop-place.invariant.1
-
-pub loop-place-preserved : goal.loop-place-preserved
-loop-place-preserved c = (
-  omega arith,
-  sym (miss c.args.source c.args.groups c.loop-place.place (omega arith) (sym c.is_entry_of.ensures ∙ c.if-is_entry_of.false))
-      ∙ c.loop-place.invariant.1,
-)
+any_entry : (source : Address) (groups : Groups) → list_any (λ entry. is_entry_of entry source) groups ≡ in_table source groups
+unfolding in_table
+any_entry source [] = refl
+any_entry source (entry ∷ groups) = rw (any_entry source groups) (either_one (is_entry_of entry source) (in_table source groups))
 
 pub returns : goal.returns
 returns c =
-    sym (none_left c.args.source c.args.groups c.loop-place.place (omega arith)) ∙ c.loop-place.invariant.1
+    any_from_yields_List (λ entry. is_entry_of entry c.args.source) _ _ c.any.result c.any.ensures.ran
+    (YieldsList-from_slice c.args.groups cc) (λ x b q k. search (rules, tests))
+    ∙ any_entry c.args.source c.args.groups

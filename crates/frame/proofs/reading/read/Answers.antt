@@ -13,8 +13,8 @@ returns-then-count-gt-LONGEST c = read_by c.args.bundle.now 1 (search rules)
 pub returns-then-length-ne0 : goal.returns-then-length-ne0
 returns-then-length-ne0 c = read_by c.args.bundle.now 2 (search rules)
 
-pub returns-then-length-count : goal.returns-then-length-count
-returns-then-length-count c = read_by c.args.bundle.now 3 (search rules)
+pub returns-then-from-count : goal.returns-then-from-count
+returns-then-from-count c = read_by c.args.bundle.now 3 (search rules)
 
 pub returns-then-sum-pair : goal.returns-then-sum-pair
 returns-then-sum-pair c = read_by c.args.bundle.now 4 (search rules)

@@ -10,18 +10,14 @@ use Rattle.messages.proofs.identity.label_in.Goals as goal
 
 pub loop-place-init : goal.loop-place-init
 unfolding first_of
-loop-place-init c =
-    record { in_range = omega arith; all_sixteen = refl; laid = refl }
+loop-place-init c = record { all_sixteen = refl; laid = refl }
 
 pub loop-place-preserved : goal.loop-place-preserved
 loop-place-preserved c =
     let d = data_of c.args.bundle.now in
-    let label = c.loop-place.label in
-    let place = c.loop-place.place in
     record {
-      in_range = omega arith;
       all_sixteen = simp length-set c.loop-place.invariant.all_sixteen;
-      laid = one_more d label place c.data_byte.result (omega arith) c.data_byte.ensures c.loop-place.invariant.laid;
+      laid = one_more d c.loop-place.label c.loop-place.place c.data_byte.result (omega arith) c.data_byte.ensures c.loop-place.invariant.laid;
     }
 
 pub returns : goal.returns

@@ -15,8 +15,8 @@ none_behind : (run : List Motor) (i : ℕ) → length run ≤ i → bits_of (dro
 unfolding bits_of
 none_behind run i h = rw (drop_of_length-le run h)
 
-pub loop-i-init : goal.loop-i-init
-loop-i-init c =
+pub loop-at-init : goal.loop-at-init
+loop-at-init c =
     let none = none_behind c.args.run.now (length c.args.run.now) (omega arith) in
     record {
       within = omega arith;
@@ -24,11 +24,11 @@ loop-i-init c =
       low = λ h. none ∙ sym (none_behind c.args.run.now c.args.count h);
     }
 
-pub loop-i-preserved : goal.loop-i-preserved
-loop-i-preserved c = record {
+pub loop-at-preserved : goal.loop-at-preserved
+loop-at-preserved c = record {
   within = omega arith;
   same =
-      c.gather-bits.ensures ∙ ap (λ (bits : ℕ). gathered bits (get_or c.args.run.now (c.loop-i.i - 1) zeros)) c.loop-i.invariant.same
-      ∙ one_more c.args.run.now c.loop-i.i (c.loop-i.i - 1) (omega arith) (omega arith);
+      c.gather-bits.ensures ∙ ap (λ (bits : ℕ). gathered bits (get_or c.args.run.now (c.loop-at.at - 1) zeros)) c.loop-at.invariant.same
+      ∙ one_more c.args.run.now c.loop-at.at (c.loop-at.at - 1) (omega arith) (omega arith);
   low = λ h. ap (λ (i : ℕ). bits_of (drop i c.args.run.now)) (omega arith);
 }

@@ -1,24 +1,21 @@
--- A turn does one place of the work that is left, and no work is left behind the last place.
+-- The records are copied to the next places, and the motor is set at the one that comes free; or nothing moves.
 -- Assumes nothing.
-use Rattle.std.proofs.Common.{◌∙◌, sym, arith, length-set}
-use Rattle.motors.specs.Motor.{zeros}
-use Rattle.runs.proofs.Moving.{up_starts, up_turns, up_ends, up_not}
+use Rattle.std.proofs.Common.{◌∙◌, ap, arith, List, inl, inr}
+use lib.ListN.{set}
+use Rattle.motors.specs.declared.motor.Motor.{Motor}
+use Rattle.register.proofs.Moving.{copied_up, not_up}
 use Rattle.register.proofs.places.move_up.Goals as goal
+use Rattle.register.proofs.places.move_up.Goals.{else-from-last-via-then-from-last+else-last-run, else-from-last-via-else-from-last}
 
 pub returns-then-last-run : goal.returns-then-last-run
-returns-then-last-run c = sym (up_not zeros c.args.run.now c.args.last c.args.from c.args.motor (omega arith))
+returns-then-last-run c =
+    ap (λ (l : List Motor). set l c.args.from c.args.motor) c.copy_within.ensures.after
+    ∙ copied_up c.args.run.now c.args.from c.args.last c.args.motor (omega arith) (omega arith)
 
-pub loop-i-init : goal.loop-i-init
-loop-i-init c = record {
-  here = omega arith;
-  same = sym (up_starts zeros c.args.run.now c.args.last c.args.from c.args.motor (omega arith));
-}
-
-pub loop-i-preserved : goal.loop-i-preserved
-loop-i-preserved c = record {
-  here = rw length-set c.loop-i.invariant.here;
-  same = sym (up_turns zeros c.loop-i.run c.args.last c.loop-i.i c.loop-i.carried (omega arith)) ∙ c.loop-i.invariant.same;
-}
-
-pub returns : goal.returns
-returns c = sym (up_ends zeros c.loop-i.run c.args.last c.loop-i.i c.loop-i.carried (omega arith)) ∙ c.loop-i.invariant.same
+pub returns-else-from-last : goal.returns-else-from-last
+returns-else-from-last c =
+    not_up c.args.run.now c.args.from c.args.last c.args.motor
+    (elim c.else-from-last.branch [
+      | else-from-last-via-then-from-last+else-last-run w ↦ inr (omega arith)
+      | else-from-last-via-else-from-last w ↦ inl (omega arith)
+    ])

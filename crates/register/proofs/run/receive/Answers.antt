@@ -2,9 +2,9 @@
 -- Assumes nothing.
 use Rattle.std.proofs.Common.{◌≡◌, ◌∙◌, sym, ap, rules}
 use Rattle.motors.specs.Filing.{filing_of, entered, enrolled, recorded, filed_of}
-use Rattle.motors.specs.declared.report.Report.{Report}
 use Rattle.motors.proofs.InPlace.{by_kind}
 use Rattle.register.proofs.run.receive.Goals as goal
+use Rattle.motors.specs.Report.{Report}
 
 pub returns-then-shows_reading : goal.returns-then-shows_reading
 returns-then-shows_reading c =

@@ -5,11 +5,11 @@ use mathlib.Core.List.{foldl}
 use Rattle.line.specs.Reader.{reader, joined, begun, stepped, no_bytes, ran, goes_on, ended_with, step_of, run_of}
 use Rattle.line.specs.declared.reader.Reader.{Reader}
 use Rattle.line.specs.declared.reader.Stepped.{Stepped}
-use Rattle.line.specs.declared.reader.Answer.TheVariants.{Nothing}
 use Rattle.line.proofs.Sound.{Sound, sound_facts, is_sound_lem, sound_all}
 use Rattle.line.proofs.Running.{First, last_one, at-end, ended_stops, to_end, open_there}
 use Rattle.line.proofs.Steps.{step-ends}
 use Rattle.line.proofs.reader.Reader.go_on.Goals as goal
+use Rattle.std.specs.Prelude.{Ok, None}
 
 -- The bytes from the place to the end have joined the reader `r`, which is `laid` then.
 module _ (r laid : Reader) (bytes silences : List ℕ) (alike : length bytes ≡ length silences) (place from end : ℕ) (sound : Sound r)
@@ -38,7 +38,7 @@ module _ (r laid : Reader) (bytes silences : List ℕ) (alike : length bytes ≡
       sym (goes ∙ last_one laid bytes silences end s h alike ends stops)
 
   -- No byte is left.
-  over : (s : Stepped) → length bytes ≤ end → s ≡ stepped laid Nothing no_bytes
+  over : (s : Stepped) → length bytes ≤ end → s ≡ stepped laid (Ok None) no_bytes
       → ran s end ≡ run_of r (drop place bytes) (drop place silences) place
   over s h e = ap (λ (t : Stepped). ran t end) e ∙ sym (goes ∙ at-end laid bytes silences end h)
 
@@ -46,12 +46,12 @@ pub returns-then-end-bytes : goal.returns-then-end-bytes
 returns-then-end-bytes c =
     ended_there c.args.self (reader c.lay_all-count.new.kept c.lay_all-count.result) c.args.bytes.now c.args.silences.now (omega arith)
     c.args.place c.first_to_end_it-from.result c.bundle_end-end.result (sound_facts c.args.self (omega arith) c.requires.0) (omega arith)
-    (omega arith) c.first_to_end_it-from.ensures.2 c.bundle_end-end.ensures.2 c.lay_all-count.ensures c.begun.result c.ended-stepped.result
-    (omega arith) (c.bundle_end-end.ensures.3 (omega arith)) c.begun.ensures c.ended-stepped.ensures
+    (omega arith) c.first_to_end_it-from.ensures.first c.bundle_end-end.ensures.quiet c.lay_all-count.ensures c.begun.result c.ended-stepped.result
+    (omega arith) (c.bundle_end-end.ensures.loud (omega arith)) c.begun.ensures c.ended-stepped.ensures
 
 pub returns : goal.returns
 returns c =
     over c.args.self (reader c.lay_all-count.new.kept c.lay_all-count.result) c.args.bytes.now c.args.silences.now (omega arith)
     c.args.place c.first_to_end_it-from.result c.bundle_end-end.result (sound_facts c.args.self (omega arith) c.requires.0) (omega arith)
-    (omega arith) c.first_to_end_it-from.ensures.2 c.bundle_end-end.ensures.2 c.lay_all-count.ensures c.answering-stepped.result
+    (omega arith) c.first_to_end_it-from.ensures.first c.bundle_end-end.ensures.quiet c.lay_all-count.ensures c.answering-stepped.result
     (omega arith) c.answering-stepped.ensures

@@ -1,9 +1,8 @@
 -- An empty bundle gives nothing, one of over 31 bytes is too long, and any other is read.
 -- Assumes nothing.
-use Rattle.std.proofs.Common.{sym, ap, arith}
-use Rattle.line.specs.Reader.{fresh}
+use Rattle.std.proofs.Common.{sym, ap, ◌∙◌, arith, rules}
+use Rattle.line.specs.Reader.{fresh, Answer}
 use Rattle.line.specs.declared.reader.Stepped.{Stepped}
-use Rattle.line.specs.declared.reader.Answer.{Answer}
 use Rattle.line.proofs.Steps.{ended_empty, ended_too_long, ended_as}
 use Rattle.line.proofs.reader.Reader.judged.Goals as goal
 
@@ -16,8 +15,10 @@ returns-then-count-eq0 c = ap answer (sym (ended_empty c.args.self fresh c.if-co
 pub returns-then-count-gt31 : goal.returns-then-count-gt31
 returns-then-count-gt31 c = ap answer (sym (ended_too_long c.args.self fresh c.if-count-eq0.false (omega arith)))
 
-pub returns-in-Frame : goal.returns-in-Frame
-returns-in-Frame c = ap answer (ended_as c.args.self fresh c.if-count-eq0.false (omega arith) (sym c.in-Frame.ensures))
+pub returns-in_err-frame : goal.returns-in_err-frame
+returns-in_err-frame c =
+    let e = ap answer (ended_as c.args.self fresh c.if-count-eq0.false (omega arith) (sym c.read.ensures ∙ c.in_err-frame.was)) in
+    search rules
 
-pub returns-in-Refused : goal.returns-in-Refused
-returns-in-Refused c = ap answer (ended_as c.args.self fresh c.if-count-eq0.false (omega arith) (sym c.in-Refused.ensures))
+pub returns : goal.returns
+returns c = ap answer (ended_as c.args.self fresh c.if-count-eq0.false (omega arith) (sym c.read.ensures ∙ c.in_ok-frame.was))
