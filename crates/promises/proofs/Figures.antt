@@ -11,8 +11,19 @@ use Rattle.board.specs.{Favourites.{first_at, ips_within}, Groups.{in_table}}
 use Rattle.messages.specs.{Motor.{position_row}, Table.{outcome_of}}
 use Rattle.node.specs.{Replies.{reply_to}, Meant.{meant}, Frames.{turn_of}}
 use Rattle.runs.specs.{Ordered.{looked_up, placed}, Places.{filled}}
-use Rattle.motors.specs.{Order.{before, same}, Motor.{is_node, is_reading, unread_part, reading_part, right_beside_line, right_of, blank_of}, Register.{in_order, all_blank, sound_of, found}, Report.{reported}, Filing.{entered, kept_of, filing_of, filed_of}}
-use Rattle.form.specs.{Layout.{in_turn, form_of, entry_behind, everywhere, listed}, FormOne.{reading_right, motor_of_reading}, Reading.{checked, read_of}, Writing.{written_of, buffer_after as form_written}}
+use Rattle.motors.specs.{
+  Order.{before, same},
+  Motor.{is_node, is_reading, unread_part, reading_part, right_beside_line, right_of, blank_of},
+  Register.{in_order, all_blank, sound_of, found},
+  Report.{reported},
+  Filing.{entered, kept_of, filing_of, filed_of},
+}
+use Rattle.form.specs.{
+  Layout.{in_turn, form_of, entry_behind, everywhere, listed},
+  FormOne.{reading_right, motor_of_reading},
+  Reading.{checked, read_of},
+  Writing.{written_of, buffer_after as form_written},
+}
 use Rattle.promises.specs.RegisterInRange.{no_motors}
 use Rattle.promises.specs.Figures.{
   P1,

@@ -9,7 +9,12 @@ use borrow.Author.Tests.{leb-true, le-leb}
 use lib.ListN.{length, get_or, take, drop, length-map, get_or-append, get_or-map}
 use lib.Seq.{get_or-take, get_or-drop, get_or-append_seam, get_or-append-add, take_at, take-take}
 use Rattle.meaning.specs.Lists.{get_d_any}
-use Rattle.frame.specs.{Layout.{header_of, data_count}, Reading.{Reading, IsFrame, reading_of}, Writing.{raw_header, Writable, writing_of, buffer_after}, declared.{header.Header.{Header}}}
+use Rattle.frame.specs.{
+  Layout.{header_of, data_count},
+  Reading.{Reading, IsFrame, reading_of},
+  Writing.{raw_header, Writable, writing_of, buffer_after},
+  declared.{header.Header.{Header}},
+}
 use Rattle.frame.proofs.Frames.{frame_is_read, frame_exactly_when}
 use Rattle.frame.proofs.Content.{length_data, data_at}
 use Rattle.frame.proofs.Buffers.{

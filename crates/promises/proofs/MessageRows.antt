@@ -11,9 +11,21 @@ use lib.Dec.{eqb}
 use lib.ListN.{length}
 use Rattle.meaning.specs.Cases.{by_test}
 use Rattle.meaning.specs.Tests.{passed_by}
-use Rattle.frame.specs.{Layout.{header_of, data_count, data_of, message}, Reading.{bundle_table, reading_of, Reading}, Writing.{frame_table, room_table, writing_with}}
+use Rattle.frame.specs.{
+  Layout.{header_of, data_count, data_of, message},
+  Reading.{bundle_table, reading_of, Reading},
+  Writing.{frame_table, room_table, writing_with},
+}
 use Rattle.frame.proofs.Content as content
-use Rattle.rts.specs.{Envelope.{envelope_of}, Spelling.{spelled_by, Spelled}, Fields.{four_of}, Table.{number_of, data_of as content_of, in_range}, Reading.{check_table, checked_by, listed, received_by, received_of}, Writing.{header_of as message_header, field_row, written_of}, declared.{envelope.Envelope.{Envelope}, message.Message.{Message}}}
+use Rattle.rts.specs.{
+  Envelope.{envelope_of},
+  Spelling.{spelled_by, Spelled},
+  Fields.{four_of},
+  Table.{number_of, data_of as content_of, in_range},
+  Reading.{check_table, checked_by, listed, received_by, received_of},
+  Writing.{header_of as message_header, field_row, written_of},
+  declared.{envelope.Envelope.{Envelope}, message.Message.{Message}},
+}
 use Rattle.rts.proofs.Lines.{at_most_four, no_reserved_number}
 use Rattle.rts.proofs.Spelling.{spelled_number, spelled_data, one_message, one_count, unlisted}
 use Rattle.promises.specs.Numbers.{write_number, received_number}

@@ -7,7 +7,13 @@ use mathlib.Core.List.{List}
 use mathlib.Core.Option.{none, some}
 use lib.ListN.{get_or}
 use Rattle.frame.specs.Layout.{message, source, data_of, data_count}
-use Rattle.motors.specs.{Motor.{unread, with_reading}, Register.{found}, Report.{pulse_in, percent_in, ip_in}, Filing.{filed_of}, declared.{motor.Motor.{Motor}}}
+use Rattle.motors.specs.{
+  Motor.{unread, with_reading},
+  Register.{found},
+  Report.{pulse_in, percent_in, ip_in},
+  Filing.{filed_of},
+  declared.{motor.Motor.{Motor}},
+}
 use Rattle.motors.proofs.FilingLaws.{a_position_report_is_kept, a_motor_that_names_itself_is_held}
 use Rattle.promises.specs.RegisterInRange.{Holds}
 use Rattle.promises.specs.Wire.{raw}

@@ -13,7 +13,37 @@ use Rattle.meaning.specs.Cases.{by_test}
 use Rattle.meaning.specs.Tests.{holds_by}
 use Rattle.frame.specs.Writing.{writing_of, buffer_after as frame_written, Writing}
 use Rattle.frame.proofs.Buffers.{refused_writes_nothing}
-use Rattle.rts.specs.{Spelling.{spelled_by}, Table.{number_of, data_of as content_of, in_range}, Reading.{received_of, Carries}, Writing.{written_of, buffer_after}, declared.{envelope.Envelope.{Envelope}, message.Message.{Message}, message.Message.TheVariants.{CtrlPosition, CtrlTilt, CtrlDim, SetChannelMode, SetTiltFramecount, SetDimFramecount, SetSunAuto, SetDctLock, SetChannel, SetOpenProg, SetIp, GetChannelMode, GetTiltFramecount, GetDimFramecount, GetDctLock, PostChannelMode, PostTiltFramecount, PostDimFramecount, PostDctLock}}}
+use Rattle.rts.specs.{
+  Spelling.{spelled_by},
+  Table.{number_of, data_of as content_of, in_range},
+  Reading.{received_of, Carries},
+  Writing.{written_of, buffer_after},
+  declared.{
+    envelope.Envelope.{Envelope},
+    message.Message.{Message},
+    message.Message.TheVariants.{
+      CtrlPosition,
+      CtrlTilt,
+      CtrlDim,
+      SetChannelMode,
+      SetTiltFramecount,
+      SetDimFramecount,
+      SetSunAuto,
+      SetDctLock,
+      SetChannel,
+      SetOpenProg,
+      SetIp,
+      GetChannelMode,
+      GetTiltFramecount,
+      GetDimFramecount,
+      GetDctLock,
+      PostChannelMode,
+      PostTiltFramecount,
+      PostDimFramecount,
+      PostDctLock,
+    },
+  },
+}
 use Rattle.rts.proofs.Carried.{carried_is_read, read_is_carried}
 use Rattle.rts.proofs.Spelling.{spelled_exactly_when, unlisted_exactly_when, one_message}
 use Rattle.rts.proofs.Writes.{written_as_a_frame, buffer_as_a_frame, no_byte_for_a_field}

@@ -4,7 +4,14 @@
 use Rattle.std.specs.Prelude.{ℕ, ◌-◌, Bool, false, List, [], ◌∷◌, get_or, replicate, None}
 use Rattle.frame.specs.declared.address.Address.{Address}
 use Rattle.travel.specs.declared.{IpIndex.{IpIndex}, Percent.{Percent}, Pulse.{Pulse}}
-use Rattle.board.specs.declared.{drive.{Drive.{Drive}}, favourites.Favourites.{Favourites}, lock.Lock.{Lock}, plate.Plate.{Plate}, settings.Settings.{Settings}, whole.Node.{Node}}
+use Rattle.board.specs.declared.{
+  drive.{Drive.{Drive}},
+  favourites.Favourites.{Favourites},
+  lock.Lock.{Lock},
+  plate.Plate.{Plate},
+  settings.Settings.{Settings},
+  whole.Node.{Node},
+}
 use Rattle.board.specs.Drive.{Motion}
 use Rattle.board.specs.Favourites.{Ip}
 

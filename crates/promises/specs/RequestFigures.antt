@@ -5,7 +5,25 @@ use Rattle.travel.specs.Position.{percent_of_pulse}
 use Rattle.serial.specs.Serial.{serial_of}
 use Rattle.board.specs.declared.whole.Node.{Node}
 use Rattle.node.specs.{Frames.{turn_of}, declared.turn.Turn.{Turn}}
-use Rattle.rts.specs.{Reading.{received_of}, Writing.{written_of, buffer_after as message_written}, declared.{envelope.Envelope.{Envelope}, message.Message.{Message}, message.Message.TheVariants.{CtrlPosition, CtrlTilt, SetSunAuto, SetDctLock, SetIp, GetChannelMode, PostChannelMode, PostTiltFramecount, PostDctLock}}}
+use Rattle.rts.specs.{
+  Reading.{received_of},
+  Writing.{written_of, buffer_after as message_written},
+  declared.{
+    envelope.Envelope.{Envelope},
+    message.Message.{Message},
+    message.Message.TheVariants.{
+      CtrlPosition,
+      CtrlTilt,
+      SetSunAuto,
+      SetDctLock,
+      SetIp,
+      GetChannelMode,
+      PostChannelMode,
+      PostTiltFramecount,
+      PostDctLock,
+    },
+  },
+}
 use Rattle.promises.specs.Numbers.{write_number, received_number}
 use Rattle.promises.specs.BoardParts.{
   address,

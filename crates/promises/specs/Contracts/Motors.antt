@@ -1,7 +1,14 @@
 -- The contracts of `motors`: a record, what a frame reports, one pass over the places, and what a call does to them.
 -- Assumes nothing.
 use Rattle.std.specs.Prelude.{ℕ, ◌+◌, ◌*◌, Bool, false, ◌&&◌, ◌||◌, leb, eqb, Ok, Err}
-use Rattle.motors.specs.{Motor.{follows_of}, Report.{report_of, Report}, Passing.{past}, Found.{found_by, gathered}, Edit.{to_enrol, to_file, to_strike}, declared.{motor.Motor.{Motor}}}
+use Rattle.motors.specs.{
+  Motor.{follows_of},
+  Report.{report_of, Report},
+  Passing.{past},
+  Found.{found_by, gathered},
+  Edit.{to_enrol, to_file, to_strike},
+  declared.{motor.Motor.{Motor}},
+}
 use Rattle.motors.proofs as motors
 use Rattle.motors.proofs.passing.Passing as Passing
 use Rattle.promises.specs.Contracts.Says.{Says}

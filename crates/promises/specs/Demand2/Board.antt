@@ -3,7 +3,13 @@
 -- Assumes nothing.
 use Rattle.std.specs.Prelude.{ℕ, ◌≤◌, ◌≡◌, ◌↔◌, true, List, [], ◌∷◌, Some}
 use Rattle.travel.specs.declared.Pulse.{Pulse}
-use Rattle.board.specs.{Settings.{in_range}, Node.{sound, status_of}, Events.{set_up, after_pulse, after_blocked, after_cleared, after_power_up}, Groups.{no_groups, applied, put}, declared.{settings.Settings.{Settings}, whole.Node.{Node}}}
+use Rattle.board.specs.{
+  Settings.{in_range},
+  Node.{sound, status_of},
+  Events.{set_up, after_pulse, after_blocked, after_cleared, after_power_up},
+  Groups.{no_groups, applied, put},
+  declared.{settings.Settings.{Settings}, whole.Node.{Node}},
+}
 use Rattle.node.specs.Frames.{turn_of}
 use Rattle.meaning.specs.Membership.{IsOneOf}
 use Rattle.promises.specs.Wire.{FrameRules, message}

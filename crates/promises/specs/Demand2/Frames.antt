@@ -2,7 +2,12 @@
 -- written is as header and DATA say; a frame written again gives its own bytes.
 -- Assumes nothing.
 use Rattle.std.specs.Prelude.{ℕ, ◌+◌, ◌-◌, ◌*◌, ◌/◌, ◌%◌, ◌≤◌, ◌<◌, ◌≡◌, ◌≢◌, ◌↔◌, true, false, List, length, get_or, take, drop, Ok}
-use Rattle.frame.specs.{Layout.{header_of, data_count as count_handed_out, data_of as data_handed_out}, Reading.{IsFrame, reading_of}, Writing.{writing_of, buffer_after}, declared.{header.Header.{Header}}}
+use Rattle.frame.specs.{
+  Layout.{header_of, data_count as count_handed_out, data_of as data_handed_out},
+  Reading.{IsFrame, reading_of},
+  Writing.{writing_of, buffer_after},
+  declared.{header.Header.{Header}},
+}
 use Rattle.promises.specs.Wire.{
   Bytes,
   inverted,

@@ -4,7 +4,37 @@
 -- Assumes nothing.
 use Rattle.std.specs.Prelude.{ℕ, ◌+◌, ◌/◌, ◌%◌, ◌≤◌, ◌≡◌, ◌≢◌, ◌↔◌, true, List, [], ◌∷◌, length, take, drop, Ok, Some, None}
 use Rattle.frame.specs.{Writing.{writing_of, buffer_after as frame_written}, declared.{header.Header.{Header}}}
-use Rattle.rts.specs.{Spelling.{spelled_by}, Table.{number_of, data_of as content_of, in_range}, Reading.{received_of}, Writing.{written_of, buffer_after}, declared.{envelope.Envelope.{Envelope}, message.Message.{Message}, message.Message.TheVariants.{CtrlPosition, CtrlTilt, CtrlDim, SetChannelMode, SetTiltFramecount, SetDimFramecount, SetSunAuto, SetDctLock, SetChannel, SetOpenProg, SetIp, GetChannelMode, GetTiltFramecount, GetDimFramecount, GetDctLock, PostChannelMode, PostTiltFramecount, PostDimFramecount, PostDctLock}}}
+use Rattle.rts.specs.{
+  Spelling.{spelled_by},
+  Table.{number_of, data_of as content_of, in_range},
+  Reading.{received_of},
+  Writing.{written_of, buffer_after},
+  declared.{
+    envelope.Envelope.{Envelope},
+    message.Message.{Message},
+    message.Message.TheVariants.{
+      CtrlPosition,
+      CtrlTilt,
+      CtrlDim,
+      SetChannelMode,
+      SetTiltFramecount,
+      SetDimFramecount,
+      SetSunAuto,
+      SetDctLock,
+      SetChannel,
+      SetOpenProg,
+      SetIp,
+      GetChannelMode,
+      GetTiltFramecount,
+      GetDimFramecount,
+      GetDctLock,
+      PostChannelMode,
+      PostTiltFramecount,
+      PostDimFramecount,
+      PostDctLock,
+    },
+  },
+}
 use Rattle.promises.specs.Wire.{
   Bytes,
   message,
