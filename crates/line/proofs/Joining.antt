@@ -18,7 +18,7 @@ use Rattle.line.specs.Reader.{reader, joined}
 use Rattle.line.specs.declared.reader.Reader.{Reader}
 
 -- The next byte of a part is laid behind those before it.
-one_laid : (r : Reader) (part kept : List ℕ) (at i : ℕ) → i < length part → at + i < 31 → reader kept (at + i) ≡ foldl joined r (take i part)
+pub one_laid : (r : Reader) (part kept : List ℕ) (at i : ℕ) → i < length part → at + i < 31 → reader kept (at + i) ≡ foldl joined r (take i part)
     → reader (set kept (at + i) (get_or part i 0)) (at + (i + 1)) ≡ foldl joined r (take (i + 1) part)
 one_laid r part kept at i h room e =
     let byte = get_or part i 0 in

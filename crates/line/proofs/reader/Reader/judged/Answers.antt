@@ -1,6 +1,6 @@
 -- An empty bundle gives nothing, one of over 31 bytes is too long, and any other is read.
 -- Assumes nothing.
-use Rattle.std.proofs.Common.{sym, ap, ◌∙◌, arith, rules}
+use Rattle.std.proofs.Common.{sym, ap, arith}
 use Rattle.line.specs.Reader.{fresh, Answer}
 use Rattle.line.specs.declared.reader.Stepped.{Stepped}
 use Rattle.line.proofs.Steps.{ended_empty, ended_too_long, ended_as}
@@ -15,10 +15,8 @@ returns-then-count-eq0 c = ap answer (sym (ended_empty c.args.self fresh c.if-co
 pub returns-then-count-gt31 : goal.returns-then-count-gt31
 returns-then-count-gt31 c = ap answer (sym (ended_too_long c.args.self fresh c.if-count-eq0.false (omega arith)))
 
-pub returns-in_err-frame : goal.returns-in_err-frame
-returns-in_err-frame c =
-    let e = ap answer (ended_as c.args.self fresh c.if-count-eq0.false (omega arith) (sym c.read.ensures ∙ c.in_err-frame.was)) in
-    search rules
+pub returns-in-Ok : goal.returns-in-Ok
+returns-in-Ok c = ap answer (ended_as c.args.self fresh c.if-count-eq0.false (omega arith) (sym c.in-Ok.ensures))
 
-pub returns : goal.returns
-returns c = ap answer (ended_as c.args.self fresh c.if-count-eq0.false (omega arith) (sym c.read.ensures ∙ c.in_ok-frame.was))
+pub returns-in-Err : goal.returns-in-Err
+returns-in-Err c = ap answer (ended_as c.args.self fresh c.if-count-eq0.false (omega arith) (sym c.in-Err.ensures))
