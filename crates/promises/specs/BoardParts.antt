@@ -7,6 +7,7 @@ use Rattle.travel.specs.declared.{IpIndex.{IpIndex}, Percent.{Percent}, Pulse.{P
 use Rattle.board.specs.declared.{
   drive.{Drive.{Drive}},
   favourites.Favourites.{Favourites},
+  groups.Put.{Put},
   lock.Lock.{Lock},
   plate.Plate.{Plate},
   settings.Settings.{Settings},
@@ -50,6 +51,10 @@ drive position motion direction source cause blocked =
 
 abbrev pub lock : (locked : Bool) → (holder : Address) → (priority : ℕ) → (saved : Bool) → Lock
 lock locked holder priority saved = record { locked = locked; holder = holder; priority = priority; saved = saved }
+
+-- An entry put into the group table, and its three bytes.
+abbrev pub put : (index low middle high : ℕ) → Put
+put index low middle high = record { index = index; low = low; middle = middle; high = high }
 
 -- The IP of a number from 1 to 16.
 abbrev pub ip_of : Favourites → ℕ → Ip

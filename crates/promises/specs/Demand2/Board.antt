@@ -7,13 +7,14 @@ use Rattle.board.specs.{
   Settings.{in_range},
   Node.{sound, status_of},
   Events.{set_up, after_pulse, after_blocked, after_cleared, after_power_up},
-  Groups.{no_groups, applied, put},
+  Groups.{no_groups, applied},
   declared.{settings.Settings.{Settings}, whole.Node.{Node}},
 }
 use Rattle.node.specs.Frames.{turn_of}
 use Rattle.meaning.specs.Membership.{IsOneOf}
 use Rattle.promises.specs.Wire.{FrameRules, message}
 use Rattle.promises.specs.BoardInRange.{SettingsInRange, BoardInRange}
+use Rattle.promises.specs.BoardParts.{put}
 use Rattle.promises.specs.Groups.{Groups}
 use Rattle.promises.specs.Typed.{SettingsTyped, Typed, TypedTable}
 use Rattle.promises.specs.Meant.{replies, Meant}

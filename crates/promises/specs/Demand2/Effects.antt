@@ -9,10 +9,10 @@ use Rattle.promises.specs.Groups.{Groups}
 use Rattle.promises.specs.Meant.{Meant}
 use Rattle.promises.specs.Wire.{FrameRules, message, source, data_of, byte_at, word_at}
 use Rattle.promises.specs.BoardParts.{pulse, percent, address, drive, lock, ip_of, with_drive, with_lock, with_label}
+use Rattle.promises.specs.BoardParts.{put}
 use Rattle.promises.specs.Demand2.Turns.{CarriedOut}
 use Rattle.promises.specs.Demand2.Codes.{Accepted, stop_rows, move_rows, set_ip_rows, lock_rows, group_rows, label_rows}
 use Rattle.board.specs.Favourites.{Ip}
-use Rattle.board.specs.Groups.{put}
 
 -- A frame that a board in range is meant to carry out.
 pub record Arrives (n : Node) (g : Groups) (b : List ℕ) : Type 0 where

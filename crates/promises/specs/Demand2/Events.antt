@@ -5,11 +5,11 @@ use Rattle.frame.specs.declared.address.Address.{Address}
 use Rattle.travel.specs.declared.Pulse.{Pulse}
 use Rattle.board.specs.{
   Events.{set_up, after_pulse, after_blocked, after_cleared, after_power_up},
-  Groups.{no_groups, in_table, applied, Change, put},
+  Groups.{no_groups, in_table, applied, Change},
   declared.{events.After.{After}, settings.Settings.{Settings}, whole.Node.{Node}},
 }
 use Rattle.meaning.specs.Membership.{IsOneOf}
-use Rattle.promises.specs.BoardParts.{fresh_node, address, drive, lock, empty_table, with_drive, with_lock}
+use Rattle.promises.specs.BoardParts.{fresh_node, address, drive, lock, put, empty_table, with_drive, with_lock}
 use Rattle.promises.specs.BoardInRange.{SettingsInRange, BoardInRange}
 use Rattle.promises.specs.Groups.{Groups, IsMember}
 
