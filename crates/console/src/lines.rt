@@ -8,7 +8,7 @@ use std::marker::Model;
 
 // What is read of the input: the chunk has so many bytes, none where the input is over, and is used up to a place.
 // Stays: no heap, so the chunk lies in an array with its place beside it.
-#[derive(Drop)]
+#[derive(Clone, Copy)]
 pub struct Input {
     chunk: [u8; 65536],
     have: usize,

@@ -1,11 +1,11 @@
 // Rows of text, gathered before they are written out, and how values stand in them.
-ghost use Rattle.std.specs.Prelude.{◌≡◌, [], length, take};
+ghost use Rattle.std.specs.Prelude.{◌≡◌, ◌<◌, [], length, take};
 
 use crate::gathered::Gathered;
 use frame::Address;
-use std::fmt;
 use std::fmt::Write;
 use std::marker::Model;
+use std::{fmt, str};
 
 // Rows that wait to be written out, as the text that they are.
 #[derive(Drop)]
@@ -62,16 +62,36 @@ pub fn first(bytes: &[u8], count: usize) -> &[u8]
     bytes.get(..count).unwrap_or(bytes)
 }
 
+// So many bytes are spelled at a time, and written as one text: docs/DESIGN-PASS.md.
+const SPELLED: usize = 32;
+
 // Bytes in HEX.
 #[derive(Clone, Copy)]
 pub struct Hex<'a>(pub &'a [u8]);
 
 impl fmt::Display for Hex<'_> {
     fn fmt<W: fmt::Write>(&self, f: &mut fmt::Formatter<W>) -> fmt::Result {
-        for byte in self.0 {
-            write!(f, "{byte:02X}")?;
+        for part in self.0.chunks(SPELLED) {
+            let mut digits = [[0; 2]; SPELLED];
+            for (pair, byte) in digits.iter_mut().zip(part) {
+                *pair = [digit(*byte / 16), digit(*byte % 16)];
+            }
+            let spelled = &digits[..part.len().min(SPELLED)];
+            let text = str::from_utf8(spelled.as_flattened());
+            f.write_str(text.map_err(|_| fmt::Error)?)?;
         }
         Ok(())
+    }
+}
+
+// A digit of a number below 16.
+fn digit(number: u8) -> u8
+    requires { number < 16 }
+{
+    if number < 10 {
+        b'0' + number
+    } else {
+        b'A' + (number - 10)
     }
 }
 
