@@ -55,7 +55,7 @@ key_of_the_entry line node d = by_test (eqb (get_or d 0 0) 1) (λ t. rw t) (λ t
 
 module _ (count : ℕ) (b : List ℕ) (i : ℕ) where
   -- So its order is that of the entry before its reading is known.
-  behind_by_entry : (previous : Motor)
+  pub behind_by_entry : (previous : Motor)
       → entry_behind form_one previous count b i
       ≡ (if follows_of previous (unread (line_in b i) (node_in b i)) then eqb (pointer_in b i) (body_place form_one count i) else false)
   unfolding entry_behind follows_of right_of right_beside_line reading_part unread_part

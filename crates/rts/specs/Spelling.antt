@@ -1,6 +1,6 @@
 -- The message that MSG and the bytes of DATA spell: the list of 002, row by row.
 -- Assumes nothing.
-use Rattle.std.specs.Prelude.{ℕ, List, [], ◌∷◌, get_or, Option, Some, None}
+use Rattle.std.specs.Prelude.{ℕ, Bool, List, [], ◌∷◌, length, get_or, Option, Some, None}
 use Rattle.meaning.specs.Tests.{◌is◌}
 use Rattle.meaning.specs.Tables.{Row, ◌when◌, decide}
 use Rattle.rts.specs.declared.message.Message.TheVariants.{
@@ -25,6 +25,7 @@ use Rattle.rts.specs.declared.message.Message.TheVariants.{
   PostDctLock,
 }
 use Rattle.rts.specs.declared.message.Message.{Message}
+use Rattle.rts.specs.Table.{data_of, in_range}
 
 -- The message of the list, or none.
 abbrev pub Spelled : Type 0
@@ -57,3 +58,8 @@ spellings number first second third fourth =
 unfoldable pub spelled_by : (number : ℕ) → (fields : List ℕ) → Spelled
 spelled_by number fields =
     decide (spellings number (get_or fields 0 0) (get_or fields 1 0) (get_or fields 2 0) (get_or fields 3 0)) None
+
+-- What the list has under it: how many bytes of DATA, whether every field is in its range, and the message; or nothing.
+abbrev pub entry_of : Spelled → Option (ℕ × Bool × Message)
+entry_of (Some m) = Some (length (data_of m), (in_range m).holds, m)
+entry_of None = None
